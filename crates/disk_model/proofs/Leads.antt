@@ -1,5 +1,5 @@
 -- What calls lead to, reads and crashes alike.
-use Rattle.std.proofs.Common.{◌≡◌, ⊎_elim, ℕ, ◌+◌, ◌*◌, ◌≤◌, IsTrue, List, length, sym, subst}
+use Rattle.std.proofs.Common.{◌≡◌, ⊎_elim, ℕ, ◌+◌, ◌*◌, ◌≤◌, IsTrue, List, length, sym, ◌∙◌, subst}
 use Rattle.disk_model.specs.Files.{IsOutcome, IsTorn, overlay}
 use Rattle.disk_model.specs.World.{World, versions, Parts, Runs, Writes, Syncs, HasSynced, IsSound, EachNow, Holds, Leads}
 use Rattle.disk_model.proofs.Outcomes.{IsMixed, one_sector_write}
@@ -70,6 +70,17 @@ synced_leads {f} {a} {b} S P R sound sound_b call done before after = record {
     each : Holds f S P a → EachNow b f S
     each holds c left = subst S (sym (now_synced sound done c left)) (holds.seen (subst IsTrue call.run.tells (told_by b f c sound_b left)))
 
+-- after it each crash leaves the very file that reads give
+pub synced_exact : {f : ℕ} {a b : World} → IsSound a → Syncs f a b → HasSynced f a b → EachNow b f (λ c. c ≡ b.seen f)
+synced_exact sound call done c left = now_synced sound done c left ∙ sym call.seen
+
+-- so what holds of what reads give holds of both
+pub synced_holds : {f : ℕ} {a b : World} (S : List ℕ → Type 0) → IsSound a → IsSound b → Syncs f a b → HasSynced f a b → (IsTrue a.tells → S (a.seen f)) → Holds f S S b
+synced_holds {f} {a} {b} S sound sound_b call done reads = record {
+  seen = λ told. subst S (sym call.seen) (reads (subst IsTrue call.run.tells told));
+  each = λ c left. subst S (sym (now_synced sound done c left)) (reads (subst IsTrue call.run.tells (told_by b f c sound_b left)));
+}
+
 -- a run that spares the file
 pub spare_leads : {parts : Parts} {a b : World} (f : ℕ) (S P : List ℕ → Type 0) → Runs parts a b → (parts.files f → ⊥) → Leads f S P P S P a b
 spare_leads {parts} {a} {b} f S P run none = record {
@@ -95,3 +106,20 @@ lead_from {f} {S} {P} {R} {T} {Q} {a} {b} U V reads most leads = record { since 
   where
     from : Holds f U V a → Holds f S P a
     from holds = record { seen = λ told. reads _ (holds.seen told); each = λ c left. most c (holds.each c left) }
+
+-- two things that are kept track of apart
+pub lead_both : {f : ℕ} {a b : World} (S P R T Q U V W X Y : List ℕ → Type 0) → Leads f S P R T Q a b → Leads f U V W X Y a b
+    → Leads f (λ c. S c × U c) (λ c. P c × V c) (λ c. R c × W c) (λ c. T c × X c) (λ c. Q c × Y c) a b
+lead_both {f} {a} {b} S P R T Q U V W X Y first second = record {
+  since = λ holds k low high c left. (first.since (one holds) k low high c left, second.since (other holds) k low high c left);
+  after = λ holds. record {
+    seen = λ told. ((first.after (one holds)).seen told, (second.after (other holds)).seen told);
+    each = λ c left. ((first.after (one holds)).each c left, (second.after (other holds)).each c left);
+  };
+}
+  where
+    one : Holds f (λ c. S c × U c) (λ c. P c × V c) a → Holds f S P a
+    one holds = record { seen = λ told. (holds.seen told).0; each = λ c left. (holds.each c left).0 }
+
+    other : Holds f (λ c. S c × U c) (λ c. P c × V c) a → Holds f U V a
+    other holds = record { seen = λ told. (holds.seen told).1; each = λ c left. (holds.each c left).1 }

@@ -1,8 +1,9 @@
 -- How a run of a depot's calls goes on.
-use Rattle.std.proofs.Common.{◌≡◌, ◌⊎◌, inl, inr, ⊎_elim, ℕ, ◌+◌, ◌≤◌, List, [], ◌∷◌, length, ◌*◌, IsTrue, refl, sym, ◌∙◌, subst, ap, arith}
+use Rattle.std.proofs.Common.{◌≡◌, ◌⊎◌, inl, inr, ⊎_elim, ℕ, ◌+◌, ◌^◌, ◌<◌, ◌≤◌, List, [], ◌∷◌, length, ◌*◌, IsTrue, Result, refl, sym, ◌∙◌, subst, ap, arith}
+use Rattle.std.proofs.lemmas.Result.{on_err_weaker}
 use Rattle.std.proofs.lemmas.Bool.{cases_lt}
 use Rattle.disk_model.specs.Files.{IsOutcome, IsGrown, IsTorn, overlay, after_write, MayWrite, after_sync, MaySync, IsLatest, IsTold}
-use Rattle.disk_model.specs.World.{World, versions, Parts, nothing, reads_of, writes_of, only_file, only_text, file_and_text, Runs, StepsWithin, StepsBefore, Writes, HasWritten, Syncs, HasSynced, Leaves, EachSince, EachNow, EachSinceSync, Rose, IsSound}
+use Rattle.disk_model.specs.World.{World, versions, Parts, nothing, reads_of, writes_of, only_file, only_text, file_and_text, making, Runs, IsGiven, StepsWithin, StepsBefore, Writes, HasWritten, Syncs, HasSynced, Leaves, EachSince, EachNow, EachSinceSync, Rose, FindCause, ReadCause, WriteCause, PrintCause, IsSound}
 use Rattle.disk_model.proofs.Outcomes.{one_sector_write, before_write, whole_torn, untorn, settled, is_outcome, IsMixed}
 
 -- ---- what goes on
@@ -106,6 +107,44 @@ file_within_both f = record { files = λ g is. is; reads = λ g is. is; names = 
 pub text_within_both : (f : ℕ) → Within only_text (file_and_text f)
 text_within_both f = record { files = λ g none. absurd none; reads = λ g none. absurd none; names = λ name none. absurd none; text = λ is. is; wire = λ none. absurd none }
 
+pub reads_within_both : (f : ℕ) → Within (reads_of f) (file_and_text f)
+reads_within_both f = record { files = λ g none. absurd none; reads = λ g is. is; names = λ name none. absurd none; text = λ none. absurd none; wire = λ none. absurd none }
+
+pub writes_within_both : (f : ℕ) → Within (writes_of f) (file_and_text f)
+writes_within_both f = record { files = λ g is. is; reads = λ g none. absurd none; names = λ name none. absurd none; text = λ none. absurd none; wire = λ none. absurd none }
+
+-- a file that is made is written
+pub writes_within_making : (name : List ℕ) (f : ℕ) → Within (writes_of f) (making name f)
+writes_within_making name f = record { files = λ g is. is; reads = λ g none. absurd none; names = λ other none. absurd none; text = λ none. absurd none; wire = λ none. absurd none }
+
+pub within_same : (parts : Parts) → Within parts parts
+within_same parts = record { files = λ g is. is; reads = λ g is. is; names = λ name is. is; text = λ is. is; wire = λ is. is }
+
+pub within_on : {few parts more : Parts} → Within few parts → Within parts more → Within few more
+within_on first second = record {
+  files = λ g is. second.files g (first.files g is);
+  reads = λ g is. second.reads g (first.reads g is);
+  names = λ name is. second.names name (first.names name is);
+  text = λ is. second.text (first.text is);
+  wire = λ is. second.wire (first.wire is);
+}
+
+-- one run after the other, of other parts, within those that hold both
+pub run_both : {parts others more : Parts} {a b c : World} → Within parts more → Within others more → Runs parts a b → Runs others b c → Runs more a c
+run_both first second run on = run_on (run_more first run) (run_more second on)
+
+-- ---- numbers of files
+
+-- a number that was given stays so
+pub below_on : {parts : Parts} {a b : World} (f : ℕ) → Runs parts a b → f < a.given → f < b.given
+below_on f run below = omega (arith, run.given)
+
+-- and stays that of its name
+pub given_on : {parts : Parts} {a b : World} {f : ℕ} {name : List ℕ} → Runs parts a b → IsGiven f name a → IsGiven f name b
+given_on {parts} {a} {b} {f} run given = record { below = below_on f run given.below; named = run.named f given.below ∙ given.named }
+
+-- ---- files that a run spares
+
 -- a file that is none of those keeps its versions
 pub spared : {parts : Parts} {a b : World} (g : ℕ) → Runs parts a b → (parts.files g → ⊥) → versions b g ≡ versions a g
 spared {parts} {a} {b} g run none = run.moments g b.now none run.later (omega arith)
@@ -147,6 +186,28 @@ steps_within a b f steps k low high = inl (steps k low high)
 -- over calls that spare it
 pub since_spared : {parts : Parts} {a b : World} (f : ℕ) (P : List ℕ → Type 0) → Runs parts a b → (parts.files f → ⊥) → EachNow a f P → EachSince b a.now f P
 since_spared {parts} {a} {b} f P run none before k low high c left = before c (subst (λ (vs : List (List ℕ)). IsOutcome vs c) (run.moments f k none low high) left)
+
+-- what each crash leaves since a moment goes on over a run that spares the file
+pub since_over : {parts : Parts} {a b : World} (from f : ℕ) (P : List ℕ → Type 0) → Runs parts a b → (parts.files f → ⊥) → from ≤ a.now → EachSince a from f P → EachSince b from f P
+since_over {parts} {a} from f P run none le each = since_on from f P run each (since_spared f P run none (now_since a from f P le each))
+
+-- from a later moment on
+pub since_later : (w : World) (from later f : ℕ) (P : List ℕ → Type 0) → from ≤ later → EachSince w from f P → EachSince w later f P
+since_later w from later f P le each k low high c left = each k (omega arith) high c left
+
+-- what follows from it
+pub since_more : (w : World) (from f : ℕ) (P Q : List ℕ → Type 0) → ((c : List ℕ) → P c → Q c) → EachSince w from f P → EachSince w from f Q
+since_more w from f P Q more each k low high c left = more c (each k low high c left)
+
+pub now_more : (w : World) (f : ℕ) (P Q : List ℕ → Type 0) → ((c : List ℕ) → P c → Q c) → EachNow w f P → EachNow w f Q
+now_more w f P Q more each c left = more c (each c left)
+
+-- both
+pub since_both : (w : World) (from f : ℕ) (P Q : List ℕ → Type 0) → EachSince w from f P → EachSince w from f Q → EachSince w from f (λ c. P c × Q c)
+since_both w from f P Q first second k low high c left = (first k low high c left, second k low high c left)
+
+pub now_both : (w : World) (f : ℕ) (P Q : List ℕ → Type 0) → EachNow w f P → EachNow w f Q → EachNow w f (λ c. P c × Q c)
+now_both w f P Q first second c left = (first c left, second c left)
 
 -- ---- what a call leaves of its file
 
@@ -391,11 +452,61 @@ spared_all {parts} {a} {b} f P run none = record {
   since = λ k low high c left. absurd (omega arith);
 }
 
+-- what follows from it
+pub sync_more : {a b : World} {f : ℕ} (P Q : List ℕ → Type 0) → ((c : List ℕ) → P c → Q c) → EachSinceSync a b f P → EachSinceSync a b f Q
+sync_more P Q more each = record {
+  moment = each.moment;
+  from = each.from;
+  to = each.to;
+  before = each.before;
+  since = λ k low high c left. more c (each.since k low high c left);
+}
+
+-- each crash since the start leaves what one left then, or what one leaves from the sync on
+pub since_sync : {a b : World} {f : ℕ} (P Q : List ℕ → Type 0) → EachNow a f P → EachSinceSync a b f Q → EachSince b a.now f (λ c. P c ⊎ Q c)
+since_sync {a} {b} {f} P Q before each k low high c left = elim (cases_lt k each.moment) [
+  | inl below ↦ inl (before c (subst (λ (vs : List (List ℕ)). IsOutcome vs c) (each.before k low below high) left))
+  | inr since ↦ inr (each.since k since high c left)
+]
+
 -- where an outcome is told after a write that succeeded, reads give what was written
 pub seen_written : {f place : ℕ} {bytes : List ℕ} {a b : World} → Runs (writes_of f) a b → IsSound b → HasWritten f place bytes a b → (c : List ℕ) → IsOutcome (versions b f) c → b.seen f ≡ overlay (a.seen f) place bytes
 seen_written {f} {place} {bytes} {a} {b} run sound done c left = done.seen (subst IsTrue run.tells (told_by b f c sound left))
 
 -- ---- counts
 
+-- a count that rose has risen later too, and from earlier on
 pub rose_more : (a b c d : ℕ) → a ≤ b → Rose b c → c ≤ d → Rose a d
 rose_more a b c d low rose high = omega arith
+
+pub rose_before : (a b c : ℕ) → Rose a b → b ≤ c → Rose a c
+rose_before a b c rose high = omega arith
+
+pub rose_after : (a b c : ℕ) → a ≤ b → Rose b c → Rose a c
+rose_after a b c low rose = omega arith
+
+-- one that stands where it stood, short of its end, didn't rise
+pub not_rose : (a : ℕ) → a + 1 < 2 ^ 64 → Rose a a → ⊥
+not_rose a short rose = omega arith
+
+-- why a call failed holds over the run before it
+pub find_cause_after : {parts : Parts} {a b : World} (c : World) {T E : Type 0} (result : Result T E) → Runs parts a b → FindCause b c result → FindCause a c result
+find_cause_after {parts} {a} {b} c result run cause = on_err_weaker result (λ (rose : Rose b.faults c.faults). rose_after a.faults b.faults c.faults run.faults rose) cause
+
+pub read_cause_after : {parts : Parts} {a b : World} (c : World) (f : ℕ) {T E : Type 0} (result : Result T E) → Runs parts a b → ReadCause b c f result → ReadCause a c f result
+read_cause_after {parts} {a} {b} c f result run cause =
+    on_err_weaker result
+    (λ (rose : Rose b.faults c.faults × Rose (b.read_faults f) (c.read_faults f)). (rose_after a.faults b.faults c.faults run.faults rose.0, rose_after (a.read_faults f) (b.read_faults f) (c.read_faults f) (run.read_faults f) rose.1))
+    cause
+
+pub write_cause_after : {parts : Parts} {a b : World} (c : World) (f : ℕ) {T E : Type 0} (result : Result T E) → Runs parts a b → WriteCause b c f result → WriteCause a c f result
+write_cause_after {parts} {a} {b} c f result run cause =
+    on_err_weaker result
+    (λ (rose : Rose b.faults c.faults × Rose (b.write_faults f) (c.write_faults f)). (rose_after a.faults b.faults c.faults run.faults rose.0, rose_after (a.write_faults f) (b.write_faults f) (c.write_faults f) (run.write_faults f) rose.1))
+    cause
+
+pub print_cause_after : {parts : Parts} {a b : World} (c : World) {T E : Type 0} (result : Result T E) → Runs parts a b → PrintCause b c result → PrintCause a c result
+print_cause_after {parts} {a} {b} c result run cause =
+    on_err_weaker result
+    (λ (rose : Rose b.faults c.faults × Rose b.print_faults c.print_faults). (rose_after a.faults b.faults c.faults run.faults rose.0, rose_after a.print_faults b.print_faults c.print_faults run.print_faults rose.1))
+    cause

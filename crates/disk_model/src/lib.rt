@@ -2,7 +2,7 @@
 //!
 //! A depot is seen as one record, [`World`](specs/World.antt): its files where it tells them, what a crash may leave
 //! of each at each moment where it tells that, its counts of failed calls, the text printed. Each call says what
-//! becomes of that record, whatever it answers. The layers above cite the laws of `specs/Laws.antt`.
+//! becomes of that record, whatever it answers. The layers above cite the laws of [`Laws`](proofs/Laws.antt).
 #![tactic(auto)]
 
 mod depot;

@@ -1,0 +1,5 @@
+pub mod Held
+pub mod Steps
+pub mod Laws
+pub mod Outcomes
+pub mod Host
