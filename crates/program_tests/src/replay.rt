@@ -1,0 +1,171 @@
+//! Runs of `replay FILE SCRIPT`.
+
+use crate::image::{changed_image, image};
+use disk_memory::MemoryHost;
+use std::alloc::{AllocError, Global};
+use std::test::Fail;
+
+/// What a run answered, and the host after it.
+#[derive(Drop)]
+struct Run {
+    status: u8,
+    host: MemoryHost,
+}
+
+fn host(
+    alloc: Global,
+    image: &[u8],
+    script: &[u8],
+    failing: &[u64],
+) -> Result<MemoryHost, AllocError> {
+    let mut host = MemoryHost::new(alloc, true)?;
+    host.put_file("s", image)?;
+    host.put_file("t", script)?;
+    host.fail_calls(failing)?;
+    Ok(host)
+}
+
+fn replayed(alloc: Global, mut host: MemoryHost, words: &[&str]) -> Result<Run, AllocError> {
+    let mut list = Vec::new(alloc);
+    for word in words {
+        list.push(String::from_str(alloc, word)?)?;
+    }
+    let status = qback_top::run_files(alloc, &list, &mut host);
+    Ok(Run { status, host })
+}
+
+const WORDS: [&str; 3] = ["replay", "s", "t"];
+
+const ROUND: &[u8] = b"write 4095 aabb\nread 4094 4\nquit\n";
+
+#[test]
+fn scripts_are_answered(rt: HostRuntime) -> Result<(), Fail> {
+    let alloc = rt.alloc();
+    let cases: [(&[u8], u8, &[u8]); 11] = [
+        (ROUND, 0, b"ok\ndata 00aabb00\nok\n"),
+        (
+            b"read 16384 0\nread 16384 1\n",
+            0,
+            b"data\nerror EINVAL\nok\n",
+        ),
+        (
+            b"write 16383 0102\nread 16383 1\n",
+            0,
+            b"error EINVAL\ndata 00\nok\n",
+        ),
+        (b"read 0 1\nflush\n", 5, b"line 2\n"),
+        (
+            b"write 4095 aabb\nflush\nread 4094 4\nquit\n",
+            5,
+            b"line 2\n",
+        ),
+        (b"quit\nread 0 1\n", 0, b"ok\n"),
+        (
+            b"# a comment\r\n\nwrite 0 FFfe\r\nread 0 2",
+            0,
+            b"ok\ndata fffe\nok\n",
+        ),
+        (b"", 0, b"ok\n"),
+        (b"read 00 1\n", 5, b"line 1\n"),
+        (b"write 0 \n", 5, b"line 1\n"),
+        (
+            b"read 0 33554433\nread 18446744073709551615 1\n",
+            0,
+            b"error EINVAL\nerror EINVAL\nok\n",
+        ),
+    ];
+    let empty = image(alloc)?;
+    for (script, status, printed) in cases {
+        let run = replayed(alloc, host(alloc, &empty, script, &[])?, &WORDS)?;
+        assert_eq!(rt; run.status, status);
+        assert_eq!(rt; run.host.printed(), printed);
+    }
+    Ok(())
+}
+
+#[test]
+fn words_and_files_are_looked_at_first(rt: HostRuntime) -> Result<(), Fail> {
+    let alloc = rt.alloc();
+    let cases: [(&[&str], u8, &[u8]); 8] = [
+        (&[], 1, b"words\n"),
+        (&["replay", "s"], 1, b"words\n"),
+        (&["replay", "s", "t", "u"], 1, b"words\n"),
+        (&["Replay", "s", "t"], 1, b"words\n"),
+        (&["replay", "", "t"], 1, b"words\n"),
+        (&["replay", "u", "v"], 2, b"file u Missing\n"),
+        (&["replay", "s", "v"], 2, b"file v Missing\n"),
+        (&["replay", "t", "t"], 2, b"file t Unbuilt\n"),
+    ];
+    let empty = image(alloc)?;
+    for (words, status, printed) in cases {
+        let run = replayed(alloc, host(alloc, &empty, ROUND, &[])?, words)?;
+        assert_eq!(rt; run.status, status);
+        assert_eq!(rt; run.host.printed(), printed);
+        assert_eq!(rt; run.host.file("s"), Some(empty.as_slice()));
+    }
+    Ok(())
+}
+
+#[test]
+fn images_of_another_form_are_refused(rt: HostRuntime) -> Result<(), Fail> {
+    let alloc = rt.alloc();
+    let cases: [(usize, &[u8]); 17] = [
+        (0, b"QFI\xfa"),
+        (4, b"\0\0\0\x02"),
+        (15, b"\x01"),
+        (23, b"\x10"),
+        (24, b"\0\0\0\0\0\0\0\0"),
+        (24, b"\0\0\0\0\0\x20\x02\0"),
+        (30, b"\x40\x01"),
+        (35, b"\x01"),
+        (39, b"\x02"),
+        (46, b"\0"),
+        (63, b"\x01"),
+        (79, b"\x01"),
+        (95, b"\x01"),
+        (99, b"\x05"),
+        (12288, b"\x80\0\0\0\0\0\0\0"),
+        (12288, b"\0\0\0\0\0\0\x30\0"),
+        (12288, b"\0\0\0\0\0\0\x40\0"),
+    ];
+    for (at, bytes) in cases {
+        let other = changed_image(alloc, at, bytes)?;
+        let run = replayed(alloc, host(alloc, &other, b"read 0 1\n", &[])?, &WORDS)?;
+        assert_eq!(rt; run.host.printed(), b"file s Unbuilt\n".as_slice());
+        assert_eq!(rt; run.status, 2);
+        assert_eq!(rt; run.host.file("s"), Some(other.as_slice()));
+    }
+    Ok(())
+}
+
+#[test]
+fn each_failed_call_ends_the_run(rt: HostRuntime) -> Result<(), Fail> {
+    let alloc = rt.alloc();
+    let empty = image(alloc)?;
+    let whole = replayed(alloc, host(alloc, &empty, ROUND, &[])?, &WORDS)?;
+    assert_eq!(rt; whole.status, 0);
+    for call in 1..whole.host.calls().saturating_add(1) {
+        let run = replayed(alloc, host(alloc, &empty, ROUND, &[call])?, &WORDS)?;
+        assert_eq!(rt; run.status, 3);
+        assert!(rt; run.host.printed().ends_with(b"device\n"));
+        assert_eq!(rt; run.host.file("t"), Some(ROUND));
+    }
+    Ok(())
+}
+
+#[test]
+fn a_closed_image_survives_a_crash(rt: HostRuntime) -> Result<(), Fail> {
+    let alloc = rt.alloc();
+    let empty = image(alloc)?;
+    let run = replayed(alloc, host(alloc, &empty, ROUND, &[])?, &WORDS)?;
+    assert_eq!(rt; run.status, 0);
+    assert!(rt; run.host.keeps_calls());
+    let last = run.host.moments() - 1;
+    for choice in 0..8 {
+        let left = run.host.pick_outcome(last, choice)?;
+        assert_eq!(rt; left.file("s"), run.host.file("s"));
+        let again = replayed(alloc, left, &WORDS)?;
+        assert_eq!(rt; again.status, 0);
+    }
+    Ok(())
+}

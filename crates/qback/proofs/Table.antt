@@ -1,0 +1,106 @@
+-- A count of an entry that rises.
+use Rattle.std.proofs.Common.{◌≡◌, ◌≢◌, ℕ, zero, suc, ◌<◌, ◌≤◌, List, [], ◌∷◌, length, map, get_or, set, refl, sym, ◌∙◌, ap, arith, string_bytes, get_or-set_other}
+use Rattle.std.proofs.lemmas.List.{map-set, length-set}
+use Rattle.std.proofs.Math.Seq.{map-set_same}
+use Rattle.disk_model.specs.World.{Runs, reads_of, writes_of, IsGiven, Rose}
+use Rattle.qback.specs.declared.real.Opened.{Opened}
+use Rattle.qback.specs.Real.{real}
+
+-- the entry keeps this field
+kept : {Y : Type 0} (field : Opened → Y) (table : List Opened) (i : ℕ) (e new : Opened) → e ≡ get_or table i e → field new ≡ field e → map field (set table i new) ≡ map field table
+kept field table i e new is same = map-set_same field table i new e (same ∙ ap field is)
+
+-- a count of an entry of another number stays
+other : (field : Opened → ℕ) (table : List Opened) (i g : ℕ) (new : Opened) → g ≢ i → get_or (map field (set table i new)) g 0 ≡ get_or (map field table) g 0
+other field table i g new apart = ap (λ xs. get_or xs g 0) (map-set field table i new) ∙ get_or-set_other (map field table) i g (field new) 0 apart
+
+-- the count of the entry
+count_was : (field : Opened → ℕ) (table : List Opened) (i : ℕ) (e : Opened) → i < length table → e ≡ get_or table i e → get_or (map field table) i 0 ≡ field e
+count_was field [] i e below is = absurd (omega (arith, below))
+count_was field (x ∷ xs) zero e below is = ap field (sym is)
+count_was field (x ∷ xs) (suc i) e below is = count_was field xs i e (omega (arith, below)) is
+
+count_is : (field : Opened → ℕ) (table : List Opened) (i : ℕ) (new : Opened) → i < length table → get_or (map field (set table i new)) i 0 ≡ field new
+count_is field [] i new below = absurd (omega (arith, below))
+count_is field (x ∷ xs) zero new below = refl
+count_is field (x ∷ xs) (suc i) new below = count_is field xs i new (omega (arith, below))
+
+-- where the count of the entry doesn't fall, none does
+no_less : (field : Opened → ℕ) (table : List Opened) (i : ℕ) (e new : Opened) → e ≡ get_or table i e → field e ≤ field new → (g : ℕ) → get_or (map field table) g 0 ≤ get_or (map field (set table i new)) g 0
+no_less field [] i e new is most g = omega arith
+no_less field (x ∷ xs) zero e new is most zero = omega (arith, most, ap field is)
+no_less field (x ∷ xs) zero e new is most (suc g) = omega arith
+no_less field (x ∷ xs) (suc i) e new is most zero = omega arith
+no_less field (x ∷ xs) (suc i) e new is most (suc g) = no_less field xs i e new is most g
+
+equal_no_less : (m n : ℕ) → n ≡ m → m ≤ n
+equal_no_less m n same = omega (arith, same)
+
+module _ (table : List Opened) (i : ℕ) (e new : Opened) (is : e ≡ get_or table i e) (faults more prints : ℕ) (most : faults ≤ more) (name : string_bytes new.name ≡ string_bytes e.name) where
+  -- the count of failed reads of an entry rises
+  pub reads_rise : new.write_faults ≡ e.write_faults → e.read_faults ≤ new.read_faults → Runs (reads_of i) (real table faults prints) (real (set table i new) more prints)
+  reads_rise same up = record {
+    later = omega arith;
+    kept = λ k f le. refl;
+    tells = refl;
+    outcomes = refl;
+    prints = refl;
+    given = equal_no_less _ _ (length-set table i new);
+    named = λ f below. ap (λ xs. get_or xs f []) (kept (λ o. string_bytes o.name) table i e new is name);
+    faults = most;
+    read_faults = no_less (λ o. o.read_faults) table i e new is up;
+    write_faults = λ f. equal_no_less _ _ (ap (λ xs. get_or xs f 0) (kept (λ o. o.write_faults) table i e new is same));
+    print_faults = omega arith;
+    send_faults = omega arith;
+    seen = λ g apart. refl;
+    moments = λ g k apart from to. refl;
+    unwritten = λ g apart. ap (λ xs. get_or xs g 0) (kept (λ o. o.write_faults) table i e new is same);
+    unread = λ g apart. other (λ o. o.read_faults) table i g new apart;
+    found = λ other apart. refl;
+    printed = λ apart. refl;
+    unprinted = λ apart. refl;
+    wire = λ apart. refl;
+  }
+
+  -- the count of failed writes of an entry rises
+  pub writes_rise : new.read_faults ≡ e.read_faults → e.write_faults ≤ new.write_faults → Runs (writes_of i) (real table faults prints) (real (set table i new) more prints)
+  writes_rise same up = record {
+    later = omega arith;
+    kept = λ k f le. refl;
+    tells = refl;
+    outcomes = refl;
+    prints = refl;
+    given = equal_no_less _ _ (length-set table i new);
+    named = λ f below. ap (λ xs. get_or xs f []) (kept (λ o. string_bytes o.name) table i e new is name);
+    faults = most;
+    read_faults = λ f. equal_no_less _ _ (ap (λ xs. get_or xs f 0) (kept (λ o. o.read_faults) table i e new is same));
+    write_faults = no_less (λ o. o.write_faults) table i e new is up;
+    print_faults = omega arith;
+    send_faults = omega arith;
+    seen = λ g apart. refl;
+    moments = λ g k apart from to. refl;
+    unwritten = λ g apart. other (λ o. o.write_faults) table i g new apart;
+    unread = λ g apart. ap (λ xs. get_or xs g 0) (kept (λ o. o.read_faults) table i e new is same);
+    found = λ other apart. refl;
+    printed = λ apart. refl;
+    unprinted = λ apart. refl;
+    wire = λ apart. refl;
+  }
+
+-- the count of the entry rose
+pub count_rose : (field : Opened → ℕ) (table : List Opened) (i : ℕ) (e new : Opened) → i < length table → e ≡ get_or table i e → Rose (field e) (field new) → Rose (get_or (map field table) i 0) (get_or (map field (set table i new)) i 0)
+count_rose field table i e new below is rose = omega (arith, rose, count_was field table i e below is, count_is field table i new below)
+
+-- the name of an entry of the table
+pub entry_name : (table : List Opened) (i : ℕ) (e : Opened) → i < length table → e ≡ get_or table i e → get_or (map (λ o. string_bytes o.name) table) i [] ≡ string_bytes e.name
+entry_name [] i e below is = absurd (omega (arith, below))
+entry_name (x ∷ xs) zero e below is = ap (λ o. string_bytes o.name) (sym is)
+entry_name (x ∷ xs) (suc i) e below is = entry_name xs i e (omega (arith, below)) is
+
+-- an entry of this name was found
+pub found_at : (table items : List Opened) (i number : ℕ) (e : Opened) (text name : List ℕ) (faults prints : ℕ) → items ≡ table → i < length items → e ≡ get_or items i e → number ≡ i → text ≡ string_bytes e.name → text ≡ name
+    → IsGiven number name (real table faults prints)
+found_at table items i number e text name faults prints same below is at bytes named = record {
+  below = omega (arith, below, at, ap length same);
+  named = ap (λ k. get_or (map (λ o. string_bytes o.name) table) k []) at ∙ ap (λ xs. get_or (map (λ o. string_bytes o.name) xs) i []) (sym same) ∙ entry_name items i e below is ∙ sym bytes ∙ named;
+}

@@ -1,0 +1,49 @@
+-- A depot that tells its counts of faults and its names alone.
+use Rattle.std.specs.Prelude.{ℕ, List, [], length, get_or, map, None, false, string_bytes}
+use Rattle.std.proofs.Common.{refl}
+use Rattle.std.proofs.lemmas.Option.{none-some}
+use Rattle.disk_model.specs.World.{World, Wire, IsSound}
+use Rattle.qback.specs.declared.real.Opened.{Opened}
+
+-- a wire with nothing on it
+abbrev pub no_wire : Wire
+no_wire = record {
+  tells = false;
+  turns = false;
+  takings = [];
+  sent = λ connection. [];
+  hung_up = λ connection. None;
+  clock = [];
+  faults = 0;
+}
+
+-- what the table and the counts tell
+abbrev pub real : List Opened → ℕ → ℕ → World
+real table faults print_faults = record {
+  tells = false;
+  outcomes = false;
+  found = λ name. None;
+  given = length table;
+  named = λ f. get_or (map (λ e. string_bytes e.name) table) f [];
+  seen = λ f. [];
+  now = 0;
+  past = λ k f. [];
+  prints = false;
+  printed = [];
+  faults = faults;
+  read_faults = λ f. get_or (map (λ e. e.read_faults) table) f 0;
+  write_faults = λ f. get_or (map (λ e. e.write_faults) table) f 0;
+  print_faults = print_faults;
+  wire = no_wire;
+}
+
+-- it keeps the laws of a depot
+pub real_sound : (table : List Opened) (faults print_faults : ℕ) → IsSound (real table faults print_faults)
+real_sound table faults print_faults = record {
+  grown = λ k f. tt;
+  latest = λ f. tt;
+  told = λ k f. tt;
+  there = λ name f told found. absurd (none-some f found);
+  absent = λ f told nameless. refl;
+  apart = λ a b f first second. absurd (none-some f first);
+}

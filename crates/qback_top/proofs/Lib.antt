@@ -1,0 +1,17 @@
+pub mod Disk
+pub mod Named
+pub mod Tables
+pub mod Writes
+pub mod Links
+pub mod Torn
+pub mod Growing
+pub mod Answering
+pub mod Running
+pub mod WordLaws
+pub mod ScriptLaws
+pub mod Opened
+pub mod Saying
+pub mod Replaying
+pub mod Earlier
+pub mod Due
+pub mod OneDue

@@ -1,0 +1,82 @@
+-- From what the lines of a script did to what the run leaves.
+use Rattle.std.proofs.Common.{ℕ, ◌^◌, ◌≤◌, List, ◌++◌, length, IsTrue, Result, Ok, Err, OnErr, sym, ap, subst, ◌∙◌}
+use Rattle.disk_model.specs.World.{World, Runs, nothing, reads_of, file_and_text, IsGiven}
+use Rattle.disk_model.proofs.Moments.{Within, nothing_within, given_on, run_more, run_on}
+use Rattle.qc_layout.specs.Image.{IsTaken}
+use Rattle.plain_model.specs.Script.{Order, Say, lines_of}
+use Rattle.plain_model.specs.Replay.{printed_from, disk_from}
+use Rattle.plain_model.proofs.Runs.{now-extended}
+use Rattle.qback_top.specs.Lines.{RanLines, BegunLines, PrintsUntilClosed, Reached}
+use Rattle.qback_top.specs.Ends.{AreThere, IsDue, Ran, looks, works_on, works_on_name, Replayed, ReplayedInPart, Stopped}
+
+-- ---- parts
+
+reads_within_looks : (f : ℕ) → Within (reads_of f) looks
+reads_within_looks f = record { files = λ g none. absurd none; reads = λ g is. tt; names = λ name none. absurd none; text = λ none. absurd none; wire = λ none. absurd none }
+
+pub looks_within_work : (f : ℕ) → Within looks (works_on f)
+looks_within_work f = record { files = λ g none. absurd none; reads = λ g is. is; names = λ name none. absurd none; text = λ none. absurd none; wire = λ none. absurd none }
+
+file_within_work : (f : ℕ) → Within (file_and_text f) (works_on f)
+file_within_work f = record { files = λ g is. is; reads = λ g is. tt; names = λ name none. absurd none; text = λ is. is; wire = λ none. absurd none }
+
+looks_within_name : (name : List ℕ) (w : World) → Within looks (works_on_name name w)
+looks_within_name name w = record { files = λ g none. absurd none; reads = λ g is. is; names = λ other none. absurd none; text = λ none. absurd none; wire = λ none. absurd none }
+
+pub looked : {f : ℕ} {a b : World} → Runs (reads_of f) a b → Runs looks a b
+looked {f} run = run_more (reads_within_looks f) run
+
+pub looked_none : {a b : World} → Runs nothing a b → Runs looks a b
+looked_none run = run_more (nothing_within looks) run
+
+pub looked_at_name : {a b : World} (name : List ℕ) (w : World) → Runs looks a b → Runs (works_on_name name w) a b
+looked_at_name name w run = run_more (looks_within_name name w) run
+
+-- work on the file of a number that was given for a name is work on a file of that name
+pub worked_on_name : {a c : World} (name : List ℕ) (f : ℕ) → IsGiven f name a → Runs (works_on f) a c → Runs (works_on_name name c) a c
+worked_on_name {a} {c} name f given run = run_more (record {
+  files = λ g is. subst (λ (k : ℕ). IsGiven k name c) (sym is) (given_on run given);
+  reads = λ g is. is;
+  names = λ other none. absurd none;
+  text = λ is. is;
+  wire = λ none. absurd none;
+}) run
+
+-- from a later start
+pub works_from : {a b c : World} (name : List ℕ) → Runs looks a b → Runs (works_on_name name c) b c → Runs (works_on_name name c) a c
+works_from {a} {b} {c} name look work = run_on (looked_at_name name c look) work
+
+-- ---- what was carried out
+
+module _ {b c : World} {f : ℕ} {orders : List Order} (work : Runs (file_and_text f) b c) where
+  -- some of the orders
+  pub replayed_part : BegunLines b c f orders → ReplayedInPart f orders b c
+  replayed_part begun = record {
+    run = run_more (file_within_work f) work;
+    answers = λ h stands. subst (λ (d : List ℕ). PrintsUntilClosed (printed_from d orders) f b c) stands.bytes begun.printed;
+    reached = λ h stands. (begun.reached.0, subst (λ (d : List ℕ). Reached d orders begun.reached.0 f b c) stands.bytes begun.reached.1);
+    spares = begun.spares;
+  }
+
+  -- all of them
+  pub replayed : RanLines b c f orders → Replayed f orders b c
+  replayed ran = record {
+    run = run_more (file_within_work f) work;
+    answers = λ told h stands. ran.printed told ∙ ap (λ (d : List ℕ). b.printed ++ printed_from d orders) stands.bytes;
+    stands = λ h stands. record { form = ran.form; bytes = ran.disk ∙ ap (λ (d : List ℕ). disk_from d orders) stands.bytes ∙ sym (now-extended h orders) };
+    keeps = ran.keeps;
+    closed = ran.closed;
+  }
+
+-- the run was due
+pub run_due : (words : List (List ℕ)) (w : World) (file script : List ℕ) (image text : ℕ) (orders : List Order) → AreThere words w file script image text → length (w.seen text) ≤ 2 ^ 28 → Say (lines_of (w.seen text)) orders → IsTaken (w.seen image)
+    → IsDue words w (Ran image orders)
+run_due words w file script image text orders there short says taken = (file, script, text, there, short, says, taken)
+
+-- a run stopped early, whatever error it answers
+abbrev pub StopsFrom : World → World → List ℕ → List ℕ → ℕ → ℕ → Type 0
+StopsFrom a e file script image text = IsTrue a.tells → (words : List (List ℕ)) → AreThere words a file script image text → Stopped words a e
+
+pub stops_err : {T E : Type 0} (result : Result T E) (a e : World) (file script : List ℕ) (image text : ℕ) → StopsFrom a e file script image text → OnErr result (StopsFrom a e file script image text)
+stops_err (Ok x) a e file script image text stops = tt
+stops_err (Err y) a e file script image text stops = stops
