@@ -1,0 +1,4 @@
+pub mod Points
+pub mod Timelines
+pub mod Spans
+pub mod Laws
