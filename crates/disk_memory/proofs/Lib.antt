@@ -4,5 +4,6 @@ mod Names
 mod Kept
 mod Calls
 mod Fields
+mod Rooms
 mod Answered
 mod Leaving

@@ -3,3 +3,4 @@ pub mod Steps
 pub mod Laws
 pub mod Outcomes
 pub mod Host
+pub mod Room

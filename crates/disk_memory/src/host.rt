@@ -1,10 +1,13 @@
 //! The host: its files, its printed text, its calls.
 
-ghost use Rattle.std.specs.Prelude.{◌≡◌, ◌+◌, ◌^◌, ◌<◌, ◌≤◌, ◌++◌, [], length, ℕ, ◌↔◌, None, IsTrue, IfOk, IfSome, MatchResult, OnOk, OnErr, option_map};
+ghost use Rattle.std.specs.Prelude.{◌≡◌, ◌+◌, ◌-◌, ◌^◌, ◌<◌, ◌≤◌, ◌++◌, [], length, get_or, ℕ, ◌↔◌, None, false, IsTrue, IfOk, IfSome, IsSome, IsOk, MatchResult, OnOk, OnErr, option_map, string_bytes, vec_capacity};
 ghost use Rattle.std.specs.List.{Contains};
 ghost use Rattle.disk_memory.specs.Held.{IsKept, held_of};
 
-use crate::files::{File, is_among, overwrite, place, raised, read};
+use crate::files::{
+    File, NAME, is_among, make_room, named, overwrite, place, raised, read, refill, roomy_files,
+    widen,
+};
 use crate::log::{Call, note_put, note_sync};
 use crate::outcomes::outcome;
 use disk_model::{Console, Depot, Failed, FileNo, Made, Outside};
@@ -27,11 +30,14 @@ pub struct MemoryHost {
     print_faults: u64,
     made: u64,
     failing: Vec<u64>,
+    // files that are made before memory is asked for, the last of them first
+    spare: Vec<File>,
     ghost kept: { IsKept (held_of keep files.items log.items printed.items faults print_faults) },
 }
 
 impl MemoryHost {
-    ghost use Rattle.disk_memory.specs.Host.{held, told_by, calls_made, calls_failing};
+    ghost use Rattle.disk_memory.specs.Host.{held, told_by, calls_made, calls_failing, room, KeepsRoom, KeepsRoomButOne};
+    ghost use Rattle.disk_memory.specs.Room.{AllFrom, HasRoom, IsRoomier, IsEmptyFile, HasMoreSpares, with_place, less_spare};
     ghost use Rattle.disk_memory.specs.Held.{number_of};
     ghost use Rattle.disk_memory.specs.Outcomes.{IsLeft};
     ghost use Rattle.disk_memory.specs.Steps.{raised, no_files, with_some, HasPut, with_content, with_file, with_bytes, with_sync, with_text, failed_find, failed_read, failed_write, failed_print};
@@ -52,6 +58,7 @@ impl MemoryHost {
             print_faults: 0,
             made: 0,
             failing: Vec::new(alloc),
+            spare: Vec::new(alloc),
         })
     }
 
@@ -63,6 +70,8 @@ impl MemoryHost {
         ensures failed { OnErr result (held self.new ≡ held self.old) }
         ensures calls { calls_made self.new ≡ calls_made self.old }
         ensures failing { calls_failing self.new ≡ calls_failing self.old }
+        ensures room { KeepsRoomButOne self.old self.new }
+        ensures sure { (more size : ℕ) → HasRoom (more + 1) size (room self.old) → (told_by self.old).outcomes ≡ false → length name.now ≤ 4096 → length bytes.now ≤ size → IsOk result }
     {
         match self.number(name) {
             Some(number) => self.replace(number, bytes),
@@ -98,9 +107,29 @@ impl MemoryHost {
         ensures failed { OnErr result (calls_failing self.new ≡ calls_failing self.old) }
         ensures held { held self.new ≡ held self.old }
         ensures calls { calls_made self.new ≡ calls_made self.old }
+        ensures room { room self.new ≡ room self.old }
     {
         self.failing = numbers.to_vec(self.alloc)?;
         Ok(())
+    }
+
+    /// Makes room for so many further files, each of a name of up to 4096 bytes, and for each file and the printed text
+    /// to grow to so many bytes. A call that stays within it takes no memory, but to keep what it did.
+    ///
+    /// Fails where memory runs out, or where the files were 2^32 or more. Room that was made before stays, whatever it
+    /// answers. A file that is put takes of it as one that is made does.
+    pub fn reserve(&mut self, files: u32, bytes: u64) -> Result<(), Memory>
+        ensures done { OnOk result (HasRoom files bytes (room self.new)) }
+        ensures room { KeepsRoom self.old self.new }
+        ensures held { held self.new ≡ held self.old }
+        ensures calls { calls_made self.new ≡ calls_made self.old }
+        ensures failing { calls_failing self.new ≡ calls_failing self.old }
+    {
+        self.widen_list(files as usize)?;
+        self.widen_text(bytes as usize)?;
+        self.widen_files(bytes as usize)?;
+        self.widen_spare(bytes as usize)?;
+        self.add_spare(files as usize, bytes as usize)
     }
 
     /// How many calls were made. It stays at 2^64 - 1 once there.
@@ -119,7 +148,6 @@ impl MemoryHost {
 
     /// How many moments there were: these have the numbers from 0 on.
     pub fn moments(&self) -> u64
-        requires { IsTrue (told_by self.now).outcomes }
         ensures { result ≡ (told_by self.now).now + 1 }
     {
         self.log.len() as u64 + 1
@@ -164,6 +192,7 @@ impl MemoryHost {
         ensures calls { calls_made self.new ≡ raised (calls_made self.old) }
         ensures failing { calls_failing self.new ≡ calls_failing self.old }
         ensures due { IsTrue result ↔ Contains (calls_failing self.old) (calls_made self.new) }
+        ensures room { room self.new ≡ room self.old }
     {
         self.made = raised(self.made);
         is_among(self.made, &self.failing)
@@ -179,28 +208,135 @@ impl MemoryHost {
         }
     }
 
-    // Adds a file of a new name, all of it synced.
+    // Adds a file of a new name, all of it synced, in room that was made for it if there is some.
     fn add(&mut self, name: &str, bytes: &[u8]) -> Result<u32, Memory>
         requires { number_of (held self.old).names name.now ≡ None }
         ensures ok { IfOk result (λ file. (file ≡ length (held self.old).names) × (held self.new ≡ with_file name.now bytes.now (held self.old))) }
         ensures err { OnErr result (held self.new ≡ held self.old) }
         ensures calls { calls_made self.new ≡ calls_made self.old }
         ensures failing { calls_failing self.new ≡ calls_failing self.old }
+        ensures room { KeepsRoomButOne self.old self.new }
+        ensures sure { (more size : ℕ) → HasRoom (more + 1) size (room self.old) → (held self.old).keep ≡ false → length name.now ≤ 4096 → length bytes.now ≤ size → IsOk result }
+    {
+        let mut file = self.empty_file(name)?;
+        file.bytes.extend_from_slice(bytes)?;
+        self.push_file(file)
+    }
+
+    // An empty file, the last of those that are kept to be made if there is one.
+    fn empty_file(&mut self, name: &str) -> Result<File, Memory>
+        ensures file { IfOk result (λ file. IsEmptyFile name.now file) }
+        ensures held { held self.new ≡ held self.old }
+        ensures calls { calls_made self.new ≡ calls_made self.old }
+        ensures failing { calls_failing self.new ≡ calls_failing self.old }
+        ensures room { room self.new ≡ less_spare (room self.old) }
+        ensures size { IfOk result (λ file. 0 < length (room self.old).spares → vec_capacity file.bytes ≡ get_or (room self.old).spares (length (room self.old).spares - 1) 0) }
+        ensures sure { OnErr result (0 < length (room self.old).names → get_or (room self.old).names (length (room self.old).names - 1) 0 < length name.now) }
+    {
+        match self.spare.pop() {
+            Some(file) => named(file, name),
+            None => Ok(File {
+                name: String::from_str(self.alloc, name)?,
+                bytes: Vec::new(self.alloc),
+                reads: 0,
+                writes: 0,
+            }),
+        }
+    }
+
+    // Adds a file of a new name, all of it synced.
+    fn push_file(&mut self, file: File) -> Result<u32, Memory>
+        requires name { number_of (held self.old).names (string_bytes file.name) ≡ None }
+        requires reads { file.reads ≡ 0 }
+        requires writes { file.writes ≡ 0 }
+        ensures ok { IfOk result (λ number. (number ≡ length (held self.old).names) × (held self.new ≡ with_file (string_bytes file.name) file.bytes.items (held self.old))) }
+        ensures err { OnErr result (held self.new ≡ held self.old) }
+        ensures calls { calls_made self.new ≡ calls_made self.old }
+        ensures failing { calls_failing self.new ≡ calls_failing self.old }
+        ensures room { OnOk result (IsRoomier (with_place (vec_capacity file.bytes) (room self.old)) (room self.new)) }
+        ensures no_room { OnErr result (IsRoomier (room self.old) (room self.new)) }
+        ensures sure { (held self.old).keep ≡ false → length (room self.old).files < (room self.old).places → length (room self.old).files + 1 < 2 ^ 32 → IsOk result }
     {
         let number = self.files.len();
         if number >= u32::MAX as usize {
             return Err(AllocError);
         }
-        let file = File {
-            name: String::from_str(self.alloc, name)?,
-            bytes: bytes.to_vec(self.alloc)?,
-            reads: 0,
-            writes: 0,
-        };
         self.files.reserve(1)?;
-        note_put(self.alloc, self.keep, &mut self.log, number as u32, bytes)?;
+        note_put(
+            self.alloc,
+            self.keep,
+            &mut self.log,
+            number as u32,
+            &file.bytes,
+        )?;
         self.files.push_reserved(file);
         Ok(number as u32)
+    }
+
+    // Makes room for so many further files in the list.
+    fn widen_list(&mut self, files: usize) -> Result<(), Memory>
+        ensures held { held self.new ≡ held self.old }
+        ensures calls { calls_made self.new ≡ calls_made self.old }
+        ensures failing { calls_failing self.new ≡ calls_failing self.old }
+        ensures room { IsRoomier (room self.old) (room self.new) }
+        ensures places { OnOk result (length (room self.new).files + files ≤ (room self.new).places) }
+        ensures numbers { OnOk result (length (room self.new).files + files < 2 ^ 32) }
+    {
+        if self.files.len().saturating_add(files) > u32::MAX as usize {
+            return Err(AllocError);
+        }
+        self.files.reserve(files)
+    }
+
+    // Makes room for a text so long.
+    fn widen_text(&mut self, bytes: usize) -> Result<(), Memory>
+        ensures held { held self.new ≡ held self.old }
+        ensures calls { calls_made self.new ≡ calls_made self.old }
+        ensures failing { calls_failing self.new ≡ calls_failing self.old }
+        ensures room { IsRoomier (room self.old) (room self.new) }
+        ensures text { OnOk result (bytes ≤ (room self.new).printed) }
+    {
+        make_room(&mut self.printed, bytes)
+    }
+
+    // Makes room in each file.
+    fn widen_files(&mut self, bytes: usize) -> Result<(), Memory>
+        ensures held { held self.new ≡ held self.old }
+        ensures calls { calls_made self.new ≡ calls_made self.old }
+        ensures failing { calls_failing self.new ≡ calls_failing self.old }
+        ensures room { IsRoomier (room self.old) (room self.new) }
+        ensures files { OnOk result (AllFrom bytes (room self.new).files) }
+    {
+        widen(&mut self.files, 0, bytes)
+    }
+
+    // Makes room in each file that is kept to be made.
+    fn widen_spare(&mut self, bytes: usize) -> Result<(), Memory>
+        ensures held { held self.new ≡ held self.old }
+        ensures calls { calls_made self.new ≡ calls_made self.old }
+        ensures failing { calls_failing self.new ≡ calls_failing self.old }
+        ensures room { IsRoomier (room self.old) (room self.new) }
+        ensures names { OnOk result (AllFrom 4096 (room self.new).names) }
+        ensures spares { OnOk result (AllFrom bytes (room self.new).spares) }
+    {
+        widen(&mut self.spare, NAME, bytes)
+    }
+
+    // Keeps so many files to be made, those that were kept before last.
+    fn add_spare(&mut self, files: usize, bytes: usize) -> Result<(), Memory>
+        ensures held { held self.new ≡ held self.old }
+        ensures calls { calls_made self.new ≡ calls_made self.old }
+        ensures failing { calls_failing self.new ≡ calls_failing self.old }
+        ensures room { HasMoreSpares (room self.old) (room self.new) }
+        ensures some { OnOk result (files ≤ length (room self.new).spares) }
+        ensures names { OnOk result (AllFrom 4096 (room self.old).names → AllFrom 4096 (room self.new).names) }
+        ensures spares { OnOk result (AllFrom bytes (room self.old).spares → AllFrom bytes (room self.new).spares) }
+    {
+        let missing = files.saturating_sub(self.spare.len());
+        let mut fresh = roomy_files(self.alloc, missing, bytes)?;
+        fresh.append(&mut self.spare)?;
+        self.spare = fresh;
+        Ok(())
     }
 
     // Gives a file other bytes, all of them synced.
@@ -210,11 +346,11 @@ impl MemoryHost {
         ensures err { OnErr result (held self.new ≡ held self.old) }
         ensures calls { calls_made self.new ≡ calls_made self.old }
         ensures failing { calls_failing self.new ≡ calls_failing self.old }
+        ensures room { IsRoomier (room self.old) (room self.new) }
+        ensures sure { (held self.old).keep ≡ false → length bytes.now ≤ get_or (room self.old).files file 0 → IsOk result }
     {
-        let next = bytes.to_vec(self.alloc)?;
-        note_put(self.alloc, self.keep, &mut self.log, file, bytes)?;
-        self.files[file as usize].bytes = next;
-        Ok(())
+        let target = &mut self.files[file as usize];
+        refill(self.alloc, self.keep, &mut self.log, target, file, bytes)
     }
 
     // Writes bytes into a file.
@@ -225,6 +361,8 @@ impl MemoryHost {
         ensures err { OnErr result (held self.new ≡ held self.old) }
         ensures calls { calls_made self.new ≡ calls_made self.old }
         ensures failing { calls_failing self.new ≡ calls_failing self.old }
+        ensures room { IsRoomier (room self.old) (room self.new) }
+        ensures sure { (held self.old).keep ≡ false → at + length bytes.now ≤ get_or (room self.old).files file 0 → IsOk result }
     {
         let target = &mut self.files[file as usize];
         overwrite(
@@ -245,6 +383,8 @@ impl MemoryHost {
         ensures err { OnErr result (held self.new ≡ held self.old) }
         ensures calls { calls_made self.new ≡ calls_made self.old }
         ensures failing { calls_failing self.new ≡ calls_failing self.old }
+        ensures room { room self.new ≡ room self.old }
+        ensures sure { (held self.old).keep ≡ false → IsOk result }
     {
         note_sync(self.keep, &mut self.log, file)?;
         Ok(())
@@ -256,6 +396,8 @@ impl MemoryHost {
         ensures err { OnErr result (held self.new ≡ held self.old) }
         ensures calls { calls_made self.new ≡ calls_made self.old }
         ensures failing { calls_failing self.new ≡ calls_failing self.old }
+        ensures room { IsRoomier (room self.old) (room self.new) }
+        ensures sure { length (held self.old).printed + length text.now ≤ (room self.old).printed → IsOk result }
     {
         self.printed.extend_from_slice(text)
     }
@@ -264,6 +406,7 @@ impl MemoryHost {
         ensures held { held self.new ≡ failed_find (held self.old) }
         ensures calls { calls_made self.new ≡ calls_made self.old }
         ensures failing { calls_failing self.new ≡ calls_failing self.old }
+        ensures room { room self.new ≡ room self.old }
     {
         self.faults = raised(self.faults);
     }
@@ -273,6 +416,7 @@ impl MemoryHost {
         ensures held { held self.new ≡ failed_read file (held self.old) }
         ensures calls { calls_made self.new ≡ calls_made self.old }
         ensures failing { calls_failing self.new ≡ calls_failing self.old }
+        ensures room { room self.new ≡ room self.old }
     {
         self.faults = raised(self.faults);
         let failed = &mut self.files[file as usize];
@@ -284,6 +428,7 @@ impl MemoryHost {
         ensures held { held self.new ≡ failed_write file (held self.old) }
         ensures calls { calls_made self.new ≡ calls_made self.old }
         ensures failing { calls_failing self.new ≡ calls_failing self.old }
+        ensures room { room self.new ≡ room self.old }
     {
         self.faults = raised(self.faults);
         let failed = &mut self.files[file as usize];
@@ -294,6 +439,7 @@ impl MemoryHost {
         ensures held { held self.new ≡ failed_print (held self.old) }
         ensures calls { calls_made self.new ≡ calls_made self.old }
         ensures failing { calls_failing self.new ≡ calls_failing self.old }
+        ensures room { room self.new ≡ room self.old }
     {
         self.faults = raised(self.faults);
         self.print_faults = raised(self.print_faults);
@@ -308,7 +454,8 @@ impl Outside for MemoryHost {
 }
 
 impl Depot for MemoryHost {
-    ghost use Rattle.disk_memory.specs.Host.{held, told_by, IsCounted};
+    ghost use Rattle.disk_memory.specs.Host.{held, told_by, room, IsCounted, FailsByNumber, IsReady, Stays, KeepsRoom, KeepsRoomButOne};
+    ghost use Rattle.disk_memory.specs.Room.{HasRoom};
     ghost use Rattle.disk_model.specs.Files.{reading};
     ghost use Rattle.disk_model.specs.World.{versions, IsGiven, Runs, nothing, reads_of, Writes, HasWritten, Syncs, HasSynced, IsMade, MayMake, FindCause, ReadCause, WriteCause};
     ghost use Rattle.disk_memory.specs.Laws.{world_sound};
@@ -321,6 +468,9 @@ impl Depot for MemoryHost {
         ensures run { Runs nothing (told_by self.old) (told_by self.new) }
         ensures cause { FindCause (told_by self.old) (told_by self.new) result }
         ensures counted { IsCounted self.old self.new result }
+        ensures sure { FailsByNumber self.old self.new result }
+        ensures room { KeepsRoom self.old self.new }
+        ensures ready { (more size : ℕ) → IsReady more size self.old → Stays more size self.new result }
     {
         if self.begins_failing() {
             self.fail_find();
@@ -338,6 +488,10 @@ impl Depot for MemoryHost {
             (λ _. (f : ℕ) × MayMake name.now f (told_by self.old) (told_by self.new)) }
         ensures cause { FindCause (told_by self.old) (told_by self.new) result }
         ensures counted { IsCounted self.old self.new result }
+        ensures sure { (more size : ℕ) → HasRoom (more + 1) size (room self.old) → (told_by self.old).outcomes ≡ false → length name.now ≤ 4096 → FailsByNumber self.old self.new result }
+        ensures room { KeepsRoomButOne self.old self.new }
+        ensures there { IsSome ((told_by self.old).found name.now) → FailsByNumber self.old self.new result × KeepsRoom self.old self.new }
+        ensures ready { (more size : ℕ) → IsReady (more + 1) size self.old → length name.now ≤ 4096 → Stays more size self.new result }
     {
         if self.begins_failing() {
             self.fail_find();
@@ -361,6 +515,9 @@ impl Depot for MemoryHost {
         ensures run { Runs (reads_of file.0) (told_by self.old) (told_by self.new) }
         ensures cause { ReadCause (told_by self.old) (told_by self.new) file.0 result }
         ensures counted { IsCounted self.old self.new result }
+        ensures sure { FailsByNumber self.old self.new result }
+        ensures room { KeepsRoom self.old self.new }
+        ensures ready { (more size : ℕ) → IsReady more size self.old → Stays more size self.new result }
     {
         if self.begins_failing() {
             self.fail_read(file.0);
@@ -376,6 +533,9 @@ impl Depot for MemoryHost {
         ensures run { Runs (reads_of file.0) (told_by self.old) (told_by self.new) }
         ensures cause { ReadCause (told_by self.old) (told_by self.new) file.0 result }
         ensures counted { IsCounted self.old self.new result }
+        ensures sure { FailsByNumber self.old self.new result }
+        ensures room { KeepsRoom self.old self.new }
+        ensures ready { (more size : ℕ) → IsReady more size self.old → Stays more size self.new result }
     {
         if self.begins_failing() {
             self.fail_read(file.0);
@@ -392,6 +552,9 @@ impl Depot for MemoryHost {
         ensures done { OnOk result (HasWritten file.0 at bytes.now (told_by self.old) (told_by self.new)) }
         ensures cause { WriteCause (told_by self.old) (told_by self.new) file.0 result }
         ensures counted { IsCounted self.old self.new result }
+        ensures sure { (more size : ℕ) → HasRoom more size (room self.old) → (told_by self.old).outcomes ≡ false → at + length bytes.now ≤ size → FailsByNumber self.old self.new result }
+        ensures room { KeepsRoom self.old self.new }
+        ensures ready { (more size : ℕ) → IsReady more size self.old → at + length bytes.now ≤ size → Stays more size self.new result }
     {
         if self.begins_failing() {
             self.fail_write(file.0);
@@ -413,6 +576,9 @@ impl Depot for MemoryHost {
         ensures failed { OnErr result (versions (told_by self.new) file.0 ≡ versions (told_by self.old) file.0) }
         ensures cause { WriteCause (told_by self.old) (told_by self.new) file.0 result }
         ensures counted { IsCounted self.old self.new result }
+        ensures sure { (told_by self.old).outcomes ≡ false → FailsByNumber self.old self.new result }
+        ensures room { KeepsRoom self.old self.new }
+        ensures ready { (more size : ℕ) → IsReady more size self.old → Stays more size self.new result }
     {
         if self.begins_failing() {
             self.fail_write(file.0);
@@ -429,7 +595,8 @@ impl Depot for MemoryHost {
 }
 
 impl Console for MemoryHost {
-    ghost use Rattle.disk_memory.specs.Host.{told_by, IsCounted};
+    ghost use Rattle.disk_memory.specs.Host.{told_by, room, IsCounted, FailsByNumber, IsReady, Stays, KeepsRoom};
+    ghost use Rattle.disk_memory.specs.Room.{HasRoom};
     ghost use Rattle.disk_model.specs.World.{Runs, only_text, PrintCause, PrintsPart};
 
     fn print(&mut self, text: &[u8]) -> Result<(), Failed>
@@ -438,6 +605,9 @@ impl Console for MemoryHost {
         ensures run { Runs only_text (told_by self.old) (told_by self.new) }
         ensures cause { PrintCause (told_by self.old) (told_by self.new) result }
         ensures counted { IsCounted self.old self.new result }
+        ensures sure { (more size : ℕ) → HasRoom more size (room self.old) → length (told_by self.old).printed + length text.now ≤ size → FailsByNumber self.old self.new result }
+        ensures room { KeepsRoom self.old self.new }
+        ensures ready { (more size : ℕ) → IsReady more size self.old → length (told_by self.old).printed + length text.now ≤ size → Stays more size self.new result }
     {
         if self.begins_failing() {
             self.fail_print();

@@ -1,6 +1,6 @@
 //! What the calls did to files.
 
-ghost use Rattle.std.specs.Prelude.{◌≡◌, ◌∷◌, [], ◌++◌, map, OnOk, OnErr};
+ghost use Rattle.std.specs.Prelude.{◌≡◌, ◌∷◌, [], ◌++◌, map, false, OnOk, OnErr, IsOk};
 ghost use Rattle.disk_memory.specs.Held.{change_of, FilePut, BytesWritten, UnderWay, FileSynced};
 ghost use Rattle.disk_memory.specs.Steps.{noted};
 
@@ -25,6 +25,7 @@ pub(crate) fn note_put(
 ) -> Result<(), AllocError>
     ensures ok { OnOk result (map change_of log.new.items ≡ map change_of log.old.items ++ noted keep (FilePut file bytes.now ∷ [])) }
     ensures err { OnErr result (log.new.items ≡ log.old.items) }
+    ensures sure { keep ≡ false → IsOk result }
 {
     if !keep {
         return Ok(());
@@ -45,6 +46,7 @@ pub(crate) fn note_write(
 ) -> Result<(), AllocError>
     ensures ok { OnOk result (map change_of log.new.items ≡ map change_of log.old.items ++ noted keep (BytesWritten file at bytes.now ∷ UnderWay ∷ [])) }
     ensures err { OnErr result (log.new.items ≡ log.old.items) }
+    ensures sure { keep ≡ false → IsOk result }
 {
     if !keep {
         return Ok(());
@@ -60,6 +62,7 @@ pub(crate) fn note_write(
 pub(crate) fn note_sync(keep: bool, log: &mut Vec<Call>, file: u32) -> Result<(), AllocError>
     ensures ok { OnOk result (map change_of log.new.items ≡ map change_of log.old.items ++ noted keep (FileSynced file ∷ [])) }
     ensures err { OnErr result (log.new.items ≡ log.old.items) }
+    ensures sure { keep ≡ false → IsOk result }
 {
     if !keep {
         return Ok(());

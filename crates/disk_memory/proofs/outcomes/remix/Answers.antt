@@ -14,7 +14,7 @@ returns-clause-sectors c =
     let new = c.mix.new.mixed in
     let room = c.make_room.new.file.items in
     let same_room : room ≡ old = c.make_room.ensures.items in
-    let padded : (i : ℕ) → byte longer i ≡ byte old i = λ i. ap (λ (l : List ℕ). byte l i) (c.deref_mut.ensures.value ∙ c.lengthen.ensures) ∙ byte_zeros room _ i ∙ ap (λ (l : List ℕ). byte l i) same_room in
+    let padded : (i : ℕ) → byte longer i ≡ byte old i = λ i. ap (λ (l : List ℕ). byte l i) (c.deref_mut.ensures.value ∙ c.lengthen.ensures.items) ∙ byte_zeros room _ i ∙ ap (λ (l : List ℕ). byte l i) same_room in
     let final = whole more.len new more.items (omega (arith, ap length c.deref_mut.ensures.value)) (omega (arith, more.ok.0)) in
     let sectors : (k : ℕ) → SameSector k new longer ⊎ SameSector k new now = subst (λ (l : List ℕ). (k : ℕ) → SameSector k new longer ⊎ SameSector k new l) c.deref.ensures.value c.mix.ensures.sectors in
     subst (λ (l : List ℕ). (k : ℕ) → SameSector k l old ⊎ SameSector k l now) (sym final) (sectors_padded old longer new now padded sectors)

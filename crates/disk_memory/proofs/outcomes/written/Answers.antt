@@ -7,12 +7,12 @@ use Rattle.disk_memory.proofs.outcomes.written.Goals as goal
 pub remix-requires : goal.remix-requires
 remix-requires c =
     let old = c.args.old in
-    let new : c.write_over.new.file.items ≡ overlay old.now.items c.args.at c.args.bytes.now = c.write_over.ensures ∙ ap (λ (l : List ℕ). overlay l c.args.at c.args.bytes.now) c.make_room.ensures.items in
+    let new : c.write_over.new.file.items ≡ overlay old.now.items c.args.at c.args.bytes.now = c.write_over.ensures.items ∙ ap (λ (l : List ℕ). overlay l c.args.at c.args.bytes.now) c.make_room.ensures.items in
     omega (arith, ap length new, overlay_no_shorter old.now.items c.args.at c.args.bytes.now, old.long)
 
 pub returns : goal.returns
 returns c versions was =
     let old = c.args.old in
-    let new : c.write_over.new.file.items ≡ overlay old.now.items c.args.at c.args.bytes.now = c.write_over.ensures ∙ ap (λ (l : List ℕ). overlay l c.args.at c.args.bytes.now) c.make_room.ensures.items in
+    let new : c.write_over.new.file.items ≡ overlay old.now.items c.args.at c.args.bytes.now = c.write_over.ensures.items ∙ ap (λ (l : List ℕ). overlay l c.args.at c.args.bytes.now) c.make_room.ensures.items in
     let call = c.in_ok-remix.ensures in
     mixture_written c.args.choice c.args.at c.args.bytes.now old.now.items old.mixed.items c.write_over.new.file.items c.remix.new.mixed.items old.shortest new call.long call.sectors call.none call.all versions was

@@ -1,18 +1,39 @@
-use Rattle.std.proofs.Common.{◌≡◌, refl, sym, subst, rules}
-use Rattle.disk_memory.specs.Held.{IsKept}
+use Rattle.std.proofs.Common.{◌<◌, length, arith}
+use Rattle.std.specs.Prelude.{string_bytes, vec_capacity}
+use Rattle.std.proofs.lemmas.List.{length-map}
+use Rattle.disk_memory.specs.declared.files.File.{File}
 use Rattle.disk_memory.proofs.Kept.{kept_with_content}
-use Rattle.disk_memory.proofs.Fields.{held_replaced}
+use Rattle.disk_memory.proofs.Fields.{both_ok, both_err, kept_either, held_replaced, held_roomier}
+use Rattle.disk_memory.proofs.Rooms.{room_wider, set_wider}
 use Rattle.disk_memory.proofs.host.MemoryHost.replace.Goals as goal
 
 pub returns-clause-ok : goal.returns-clause-ok
 returns-clause-ok c =
     let self = c.args.self.now in
-    let same : c.in_ok-next.next.items ≡ c.args.bytes.now = search rules in
-    held_replaced self.keep self.files.items self.log.items self.printed.items self.faults self.print_faults c.args.file c.index_mut.result.now _ c.requires c.index_mut.ensures.value c.args.bytes.now c.note_put.new.log.items refl refl refl same c.in_ok-note_put.ensures.ok
+    let call = c.refill.ensures in
+    both_ok c.refill.result call.bytes call.noted
+    (held_replaced self.keep self.files.items self.log.items self.printed.items self.faults self.print_faults c.args.file c.index_mut-target.result.now c.refill.new.file c.requires c.index_mut-target.ensures.value c.args.bytes.now c.refill.new.log.items call.name call.reads call.writes)
 
-pub invariant_of-self-2 : goal.invariant_of-self-2
-invariant_of-self-2 c =
+pub returns-clause-err : goal.returns-clause-err
+returns-clause-err c =
     let self = c.args.self.now in
-    let same : c.in_ok-next.next.items ≡ c.args.bytes.now = search rules in
-    let is = held_replaced self.keep self.files.items self.log.items self.printed.items self.faults self.print_faults c.args.file c.index_mut.result.now _ c.requires c.index_mut.ensures.value c.args.bytes.now c.note_put.new.log.items refl refl refl same c.in_ok-note_put.ensures.ok in
-    record { kept = subst IsKept (sym is) (kept_with_content c.args.file c.args.bytes.now _ c.requires self.kept) }
+    let call = c.refill.ensures in
+    both_err c.refill.result call.unwritten call.unnoted
+    (held_roomier self.keep self.files.items self.log.items self.printed.items self.faults self.print_faults c.args.file c.index_mut-target.result.now c.refill.new.file c.requires c.index_mut-target.ensures.value c.refill.new.log.items call.name call.reads call.writes)
+
+pub invariant_of-self : goal.invariant_of-self
+invariant_of-self c =
+    let self = c.args.self.now in
+    let call = c.refill.ensures in
+    let done = both_ok c.refill.result call.bytes call.noted
+    (held_replaced self.keep self.files.items self.log.items self.printed.items self.faults self.print_faults c.args.file c.index_mut-target.result.now c.refill.new.file c.requires c.index_mut-target.ensures.value c.args.bytes.now c.refill.new.log.items call.name call.reads call.writes) in
+    let failed = both_err c.refill.result call.unwritten call.unnoted
+    (held_roomier self.keep self.files.items self.log.items self.printed.items self.faults self.print_faults c.args.file c.index_mut-target.result.now c.refill.new.file c.requires c.index_mut-target.ensures.value c.refill.new.log.items call.name call.reads call.writes) in
+    record { kept = kept_either c.refill.result done failed (kept_with_content c.args.file c.args.bytes.now _ c.requires self.kept) self.kept }
+
+pub returns-clause-room : goal.returns-clause-room
+returns-clause-room c =
+    let self = c.args.self.now in
+    let files = self.files.items in
+    let there : c.args.file < length files = omega (arith, c.requires, length-map files (λ (file : File). string_bytes file.name)) in
+    room_wider (vec_capacity self.files) files _ self.spare.items (vec_capacity self.printed) (set_wider files c.args.file c.index_mut-target.result.now c.refill.new.file there c.index_mut-target.ensures.value (λ (file : File). vec_capacity file.bytes) c.refill.ensures.kept)
