@@ -2,6 +2,14 @@
 #![tactic(auto)]
 
 #[cfg(test)]
+mod creations;
+#[cfg(test)]
 mod image;
 #[cfg(test)]
+mod infos;
+#[cfg(test)]
 mod replay;
+#[cfg(test)]
+mod runs;
+#[cfg(test)]
+mod words;

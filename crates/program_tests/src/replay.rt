@@ -1,37 +1,19 @@
 //! Runs of `replay FILE SCRIPT`.
 
 use crate::image::{changed_image, image};
+use crate::runs::{host_with, run_words};
 use disk_memory::MemoryHost;
 use std::alloc::{AllocError, Global};
 use std::test::Fail;
 
-/// What a run answered, and the host after it.
-#[derive(Drop)]
-struct Run {
-    status: u8,
-    host: MemoryHost,
-}
-
+/// A host with an image and a script.
 fn host(
     alloc: Global,
     image: &[u8],
     script: &[u8],
     failing: &[u64],
 ) -> Result<MemoryHost, AllocError> {
-    let mut host = MemoryHost::new(alloc, true)?;
-    host.put_file("s", image)?;
-    host.put_file("t", script)?;
-    host.fail_calls(failing)?;
-    Ok(host)
-}
-
-fn replayed(alloc: Global, mut host: MemoryHost, words: &[&str]) -> Result<Run, AllocError> {
-    let mut list = Vec::new(alloc);
-    for word in words {
-        list.push(String::from_str(alloc, word)?)?;
-    }
-    let status = qback_top::run_files(alloc, &list, &mut host);
-    Ok(Run { status, host })
+    host_with(alloc, &[("s", image), ("t", script)], failing)
 }
 
 const WORDS: [&str; 3] = ["replay", "s", "t"];
@@ -76,7 +58,7 @@ fn scripts_are_answered(rt: HostRuntime) -> Result<(), Fail> {
     ];
     let empty = image(alloc)?;
     for (script, status, printed) in cases {
-        let run = replayed(alloc, host(alloc, &empty, script, &[])?, &WORDS)?;
+        let run = run_words(alloc, host(alloc, &empty, script, &[])?, &WORDS)?;
         assert_eq!(rt; run.status, status);
         assert_eq!(rt; run.host.printed(), printed);
     }
@@ -98,7 +80,7 @@ fn words_and_files_are_looked_at_first(rt: HostRuntime) -> Result<(), Fail> {
     ];
     let empty = image(alloc)?;
     for (words, status, printed) in cases {
-        let run = replayed(alloc, host(alloc, &empty, ROUND, &[])?, words)?;
+        let run = run_words(alloc, host(alloc, &empty, ROUND, &[])?, words)?;
         assert_eq!(rt; run.status, status);
         assert_eq!(rt; run.host.printed(), printed);
         assert_eq!(rt; run.host.file("s"), Some(empty.as_slice()));
@@ -130,7 +112,7 @@ fn images_of_another_form_are_refused(rt: HostRuntime) -> Result<(), Fail> {
     ];
     for (at, bytes) in cases {
         let other = changed_image(alloc, at, bytes)?;
-        let run = replayed(alloc, host(alloc, &other, b"read 0 1\n", &[])?, &WORDS)?;
+        let run = run_words(alloc, host(alloc, &other, b"read 0 1\n", &[])?, &WORDS)?;
         assert_eq!(rt; run.host.printed(), b"file s Unbuilt\n".as_slice());
         assert_eq!(rt; run.status, 2);
         assert_eq!(rt; run.host.file("s"), Some(other.as_slice()));
@@ -142,10 +124,10 @@ fn images_of_another_form_are_refused(rt: HostRuntime) -> Result<(), Fail> {
 fn each_failed_call_ends_the_run(rt: HostRuntime) -> Result<(), Fail> {
     let alloc = rt.alloc();
     let empty = image(alloc)?;
-    let whole = replayed(alloc, host(alloc, &empty, ROUND, &[])?, &WORDS)?;
+    let whole = run_words(alloc, host(alloc, &empty, ROUND, &[])?, &WORDS)?;
     assert_eq!(rt; whole.status, 0);
     for call in 1..whole.host.calls().saturating_add(1) {
-        let run = replayed(alloc, host(alloc, &empty, ROUND, &[call])?, &WORDS)?;
+        let run = run_words(alloc, host(alloc, &empty, ROUND, &[call])?, &WORDS)?;
         assert_eq!(rt; run.status, 3);
         assert!(rt; run.host.printed().ends_with(b"device\n"));
         assert_eq!(rt; run.host.file("t"), Some(ROUND));
@@ -157,14 +139,14 @@ fn each_failed_call_ends_the_run(rt: HostRuntime) -> Result<(), Fail> {
 fn a_closed_image_survives_a_crash(rt: HostRuntime) -> Result<(), Fail> {
     let alloc = rt.alloc();
     let empty = image(alloc)?;
-    let run = replayed(alloc, host(alloc, &empty, ROUND, &[])?, &WORDS)?;
+    let run = run_words(alloc, host(alloc, &empty, ROUND, &[])?, &WORDS)?;
     assert_eq!(rt; run.status, 0);
     assert!(rt; run.host.keeps_calls());
     let last = run.host.moments() - 1;
     for choice in 0..8 {
         let left = run.host.pick_outcome(last, choice)?;
         assert_eq!(rt; left.file("s"), run.host.file("s"));
-        let again = replayed(alloc, left, &WORDS)?;
+        let again = run_words(alloc, left, &WORDS)?;
         assert_eq!(rt; again.status, 0);
     }
     Ok(())

@@ -1,7 +1,7 @@
 //! The program: one command, on the files of the host and its standard output.
 #![tactic(auto)]
 
-ghost use Rattle.std.specs.Prelude.{◌≤◌, IfOk};
+ghost use Rattle.std.specs.Prelude.{◌≡◌, ◌⊎◌, ◌≤◌, IfOk};
 
 mod real;
 
@@ -27,7 +27,7 @@ fn words_of(rt: &HostRuntime) -> Result<Vec<String>, AllocError> {
 
 /// Runs the words' command on the files of the host, and says its status.
 fn run(rt: &HostRuntime) -> Result<u8, AllocError>
-    ensures { IfOk result (λ status. status ≤ 5) }
+    ensures { IfOk result (λ status. (status ≤ 5) ⊎ (status ≡ 8)) }
 {
     let words = words_of(rt)?;
     let alloc = rt.alloc();
@@ -37,7 +37,7 @@ fn run(rt: &HostRuntime) -> Result<u8, AllocError>
 
 /// The status that the program ends with.
 fn status(rt: &HostRuntime) -> u8
-    ensures { result ≤ 5 }
+    ensures { (result ≤ 5) ⊎ (result ≡ 8) }
 {
     match run(rt) {
         Ok(status) => status,

@@ -4,7 +4,7 @@ use Rattle.std.proofs.lemmas.Bool.{cases_Bool}
 use Rattle.disk_model.specs.Files.{overlay, reading}
 use Rattle.disk_model.proofs.Bytes.{length-overlay_inside}
 use Rattle.disk_model.specs.World.{World, Runs, only_file, only_text, PrintsPart}
-use Rattle.qc_layout.specs.Image.{disk_of, disk_size}
+use Rattle.qc_layout.specs.FirstForm.{disk_of, disk_size}
 use Rattle.plain_model.specs.Script.{Order, Write, Read, Quit, Nothing}
 use Rattle.plain_model.specs.Replay.{fits, printed_by, disk_by, data_line, ok_line, invalid_line}
 use Rattle.plain_model.proofs.Runs as runs

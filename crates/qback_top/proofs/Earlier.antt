@@ -1,17 +1,20 @@
 -- What is due, and what is left, from an earlier start: calls that only read files went before.
 use Rattle.std.proofs.Common.{◌≡◌, inl, inr, ⊎_elim, ℕ, ◌^◌, ◌<◌, ◌≤◌, List, ◌++◌, length, take, IsTrue, IsSome, Some, None, Result, Ok, Err, IfOk, OnErr, sym, ap, subst, ◌∙◌}
+use Rattle.std.specs.Prelude.{codes}
 use Rattle.disk_model.specs.World.{World, Runs}
 use Rattle.disk_model.proofs.Moments.{run_on, run_more}
-use Rattle.qc_layout.specs.Image.{IsTaken, Stands}
+use Rattle.qc_layout.specs.FirstForm.{IsTaken, StandsInFirstForm}
 use Rattle.plain_model.specs.History.{now}
 use Rattle.plain_model.specs.Script.{Order, Say, FirstBad, lines_of}
 use Rattle.plain_model.specs.Replay.{printed_from}
-use Rattle.qback_top.specs.declared.command.End.{End}
-use Rattle.qback_top.specs.declared.command.End.TheVariants as ends
+use Rattle.qback_top.specs.declared.end.End.{End}
+use Rattle.qback_top.specs.declared.end.End.TheVariants as ends
 use Rattle.qback_top.specs.Open.{Spares, KeepsRest}
 use Rattle.qback_top.specs.Lines.{PrintsUntilClosed, Reached}
-use Rattle.qback_top.specs.Ends.{IsReplay, AreThere, Ending, NoForm, Missing, TooLong, Unbuilt, BadLine, Ran, IsDue, looks, works_on, Replayed, ReplayedInPart, Stopped}
-use Rattle.qback_top.specs.Shown.{Shows}
+use Rattle.qback_top.specs.Words.{IsReplay}
+use Rattle.qback_top.specs.Replays.{AreThere, IsTooLong, IsUnbuilt, ReplayDue, Replayed, ReplayedInPart}
+use Rattle.qback_top.specs.Endings.{Ending, NoForm, Missing, Exists, Refused, BadLine, Made, Told, Ran, looks, works_on}
+use Rattle.qback_top.specs.Shown.{StopsInReplay, ShowsReplay}
 use Rattle.qback_top.proofs.Replaying.{looks_within_work, StopsFrom}
 use Rattle.qback_top.proofs.Saying.{said_after}
 
@@ -25,8 +28,21 @@ module _ {a b : World} (look : Runs looks a b) where
   there_before : (words : List (List ℕ)) (file script : List ℕ) (image text : ℕ) → AreThere words b file script image text → AreThere words a file script image text
   there_before words file script image text there = record { form = there.form; is_image = sym (found_is file) ∙ there.is_image; is_text = sym (found_is script) ∙ there.is_text }
 
-  pub due_before : (words : List (List ℕ)) (ending : Ending) → IsDue words b ending → IsDue words a ending
-  due_before words NoForm due = due
+  too_long_before : (words : List (List ℕ)) (name : List ℕ) → IsTooLong words b name → IsTooLong words a name
+  too_long_before words name due = (due.0, due.1, due.2, there_before words due.0 name due.1 due.2 due.3, subst (λ (t : List ℕ). 2 ^ 28 < length t) (seen_is due.2) due.4)
+
+  unbuilt_before : (words : List (List ℕ)) (name : List ℕ) → IsUnbuilt words b name → IsUnbuilt words a name
+  unbuilt_before words name due = (
+    due.0,
+    due.1,
+    due.2,
+    there_before words name due.0 due.1 due.2 due.3,
+    subst (λ (t : List ℕ). length t ≤ 2 ^ 28) (seen_is due.2) due.4,
+    (due.5.0, subst (λ (t : List ℕ). Say (lines_of t) due.5.0) (seen_is due.2) due.5.1),
+    λ taken. due.6 (subst IsTaken (sym (seen_is due.1)) taken),
+  )
+
+  pub due_before : (words : List (List ℕ)) (ending : Ending) → ReplayDue words b ending → ReplayDue words a ending
   due_before words (Missing name) due = (
     due.0,
     due.1,
@@ -36,16 +52,10 @@ module _ {a b : World} (look : Runs looks a b) where
         (λ (second : (name ≡ due.1) × IsSome (b.found due.0) × (b.found due.1 ≡ None)). inr (second.0, subst IsSome (found_is due.0) second.1, sym (found_is due.1) ∙ second.2))
         due.3,
   )
-  due_before words (TooLong name) due = (due.0, due.1, due.2, there_before words due.0 name due.1 due.2 due.3, subst (λ (t : List ℕ). 2 ^ 28 < length t) (seen_is due.2) due.4)
-  due_before words (Unbuilt name) due = (
-    due.0,
-    due.1,
-    due.2,
-    there_before words name due.0 due.1 due.2 due.3,
-    subst (λ (t : List ℕ). length t ≤ 2 ^ 28) (seen_is due.2) due.4,
-    (due.5.0, subst (λ (t : List ℕ). Say (lines_of t) due.5.0) (seen_is due.2) due.5.1),
-    λ taken. due.6 (subst IsTaken (sym (seen_is due.1)) taken),
-  )
+  due_before words (Refused name reason) due = ⊎_elim
+      (λ (long : IsTooLong words b name × (reason ≡ codes "ScriptTooLong")). inl (too_long_before words name long.0, long.1))
+      (λ (unbuilt : IsUnbuilt words b name × (reason ≡ codes "Unbuilt")). inr (unbuilt_before words name unbuilt.0, unbuilt.1))
+      due
   due_before words (BadLine n) due =
       (due.0, due.1, due.2, due.3, there_before words due.0 due.1 due.2 due.3 due.4, subst (λ (t : List ℕ). length t ≤ 2 ^ 28) (seen_is due.3) due.5, subst (λ (t : List ℕ). FirstBad (lines_of t) n) (seen_is due.3) due.6)
   due_before words (Ran number orders) due = (
@@ -57,6 +67,10 @@ module _ {a b : World} (look : Runs looks a b) where
     subst (λ (t : List ℕ). Say (lines_of t) orders) (seen_is due.2) due.5,
     subst IsTaken (seen_is number) due.6,
   )
+  due_before words NoForm due = absurd due
+  due_before words (Exists name) due = absurd due
+  due_before words (Made task) due = absurd due
+  due_before words (Told text) due = absurd due
 
   part_before : (text : List ℕ) (f : ℕ) (e : World) → PrintsUntilClosed text f b e → PrintsUntilClosed text f a e
   part_before text f e part told = let p = part (subst IsTrue (sym look.prints) told) in (p.0, p.1 ∙ ap (λ (t : List ℕ). t ++ take p.0 text) (look.printed (λ none. none)), p.2)
@@ -70,8 +84,8 @@ module _ {a b : World} (look : Runs looks a b) where
   works_before : (f : ℕ) (e : World) → Runs (works_on f) b e → Runs (works_on f) a e
   works_before f e run = run_on (run_more (looks_within_work f) look) run
 
-  stands_before : (f : ℕ) (disk : List ℕ) → Stands (a.seen f) disk → Stands (b.seen f) disk
-  stands_before f disk = subst (λ (file : List ℕ). Stands file disk) (sym (seen_is f))
+  stands_before : (f : ℕ) (disk : List ℕ) → StandsInFirstForm (a.seen f) disk → StandsInFirstForm (b.seen f) disk
+  stands_before f disk = subst (λ (file : List ℕ). StandsInFirstForm file disk) (sym (seen_is f))
 
   pub replayed_before : (f : ℕ) (orders : List Order) (e : World) → Replayed f orders b e → Replayed f orders a e
   replayed_before f orders e done = record {
@@ -90,37 +104,37 @@ module _ {a b : World} (look : Runs looks a b) where
     spares = subst (λ (file : List ℕ). Spares file (e.seen f)) (seen_is f) begun.spares;
   }
 
-  pub stopped_before : (words : List (List ℕ)) (e : World) → Stopped words b e → Stopped words a e
+  pub stopped_before : (words : List (List ℕ)) (e : World) → StopsInReplay words b e → StopsInReplay words a e
   stopped_before words e stopped = ⊎_elim
       (λ (none : Runs looks b e). inl (run_on look none))
-      (λ (some : (number : ℕ) × (orders : List Order) × IsDue words b (Ran number orders) × ReplayedInPart number orders b e). inr (some.0, some.1, due_before words (Ran some.0 some.1) some.2, begun_before some.0 some.1 e some.3))
+      (λ (some : (number : ℕ) × (orders : List Order) × ReplayDue words b (Ran number orders) × ReplayedInPart number orders b e). inr (some.0, some.1, due_before words (Ran some.0 some.1) some.2, begun_before some.0 some.1 e some.3))
       stopped
 
-  pub shows_before : (words : List (List ℕ)) (e : World) (end : End) → Shows words b e end → Shows words a e end
-  shows_before words e ends.Ran shows = (shows.0, shows.1, due_before words (Ran shows.0 shows.1) shows.2, replayed_before shows.0 shows.1 e shows.3)
-  shows_before words e ends.NoForm shows = (due_before words NoForm shows.0, run_on look shows.1)
+  pub shows_before : (words : List (List ℕ)) (e : World) (end : End) → ShowsReplay words b e end → ShowsReplay words a e end
+  shows_before words e ends.Done shows = (shows.0, shows.1, due_before words (Ran shows.0 shows.1) shows.2, replayed_before shows.0 shows.1 e shows.3)
   shows_before words e (ends.Missing name) shows = (due_before words (Missing name.now) shows.0, run_on look shows.1)
-  shows_before words e (ends.TooLong name) shows = (due_before words (TooLong name.now) shows.0, run_on look shows.1)
-  shows_before words e (ends.Unbuilt name) shows = (due_before words (Unbuilt name.now) shows.0, run_on look shows.1)
+  shows_before words e (ends.Refused name reason) shows = (due_before words (Refused name.now reason.now) shows.0, run_on look shows.1)
   shows_before words e (ends.BadLine n) shows = (due_before words (BadLine n) shows.0, run_on look shows.1)
   shows_before words e (ends.Stopped stop) shows = stopped_before words e shows
+  shows_before words e ends.NoForm shows = absurd shows
+  shows_before words e (ends.Exists name) shows = absurd shows
 
 -- ---- both files are there
 
-abbrev pub ShowsReplay : World → World → List ℕ → List ℕ → End → Type 0
-ShowsReplay a e file script end = IsTrue a.tells → (words : List (List ℕ)) → IsReplay words file script → Shows words a e end
+abbrev pub ShowsNamed : World → World → List ℕ → List ℕ → End → Type 0
+ShowsNamed a e file script end = IsTrue a.tells → (words : List (List ℕ)) → IsReplay words file script → ShowsReplay words a e end
 
 abbrev pub StopsReplay : World → World → List ℕ → List ℕ → Type 0
-StopsReplay a e file script = IsTrue a.tells → (words : List (List ℕ)) → IsReplay words file script → Stopped words a e
+StopsReplay a e file script = IsTrue a.tells → (words : List (List ℕ)) → IsReplay words file script → StopsInReplay words a e
 
 abbrev pub ShowsThere : World → World → List ℕ → List ℕ → ℕ → ℕ → End → Type 0
-ShowsThere b e file script image text end = IsTrue b.tells → (words : List (List ℕ)) → AreThere words b file script image text → Shows words b e end
+ShowsThere b e file script image text end = IsTrue b.tells → (words : List (List ℕ)) → AreThere words b file script image text → ShowsReplay words b e end
 
 module _ {a b : World} (look : Runs looks a b) (file script : List ℕ) (image text : ℕ) (first : IsTrue a.tells → a.found file ≡ Some image) (second : IsTrue a.tells → a.found script ≡ Some text) where
   there_after : IsTrue a.tells → (words : List (List ℕ)) → IsReplay words file script → AreThere words b file script image text
   there_after told words form = record { form = form; is_image = look.found file (λ none. none) ∙ first told; is_text = look.found script (λ none. none) ∙ second told }
 
-  pub found_shows : {E : Type 0} (e : World) (result : Result End E) → IfOk result (ShowsThere b e file script image text) → IfOk result (ShowsReplay a e file script)
+  pub found_shows : {E : Type 0} (e : World) (result : Result End E) → IfOk result (ShowsThere b e file script image text) → IfOk result (ShowsNamed a e file script)
   found_shows e (Ok end) shows = λ told words form. shows_before look words e end (shows (subst IsTrue (sym look.tells) told) words (there_after told words form))
   found_shows e (Err stop) shows = tt
 

@@ -7,7 +7,7 @@ use Rattle.disk_model.specs.World.{World, Parts, Runs, reads_of, writes_of, only
 use Rattle.disk_model.proofs.Bytes.{length-overlay_inside}
 use Rattle.disk_model.proofs.Moments.{run_more, reads_within_file, writes_within_file}
 use Rattle.qc_layout.specs.Entries.{IsOffset}
-use Rattle.qc_layout.specs.Image.{l1_offset, table_offset, host_of, clusters_of, disk_of, disk_size}
+use Rattle.qc_layout.specs.FirstForm.{l1_offset, table_offset, host_of, clusters_of, disk_of, disk_size}
 use Rattle.qback_top.specs.declared.image.Image.{Image}
 use Rattle.qback_top.specs.Open.{IsOpen, Spares, Between, KeepsRest}
 use Rattle.qback_top.proofs.Disk.{length-disk_of, same_disk_size, pieces, overlay_two}

@@ -13,5 +13,11 @@ pub mod Opened
 pub mod Saying
 pub mod Replaying
 pub mod Earlier
-pub mod Due
+pub mod OneTask
+pub mod OneReplay
+pub mod OneInfo
 pub mod OneDue
+pub mod Informing
+pub mod Due
+pub mod Creating
+pub mod Standing

@@ -8,7 +8,7 @@ use Rattle.disk_model.specs.Files.{byte, overlay, u64_at}
 use Rattle.disk_model.proofs.Bytes.{length-overlay, length-overlay_inside, byte-overlay_in, is_reading}
 use Rattle.disk_model.proofs.Words.{u64-overlay_same}
 use Rattle.qc_layout.specs.Entries.{offset_in}
-use Rattle.qc_layout.specs.Image.{head_of, l1_offset, host_of, table_offset, clusters_of, disk_byte, disk_of, disk_size, IsHeader, IsFirstForm, IsCluster, IsPlainEntry, IsRest}
+use Rattle.qc_layout.specs.FirstForm.{head_of, l1_offset, host_of, table_offset, clusters_of, disk_byte, disk_of, disk_size, IsHeader, IsFirstForm, IsCluster, IsPlainEntry, IsRest}
 use Rattle.qback_top.specs.Open.{Spares, KeepsRest, entry_of, NamesNew}
 use Rattle.qback_top.proofs.Named.{entry_none, entry_some}
 use Rattle.qback_top.proofs.Disk.{host_none, host_some, cluster_inside, stored_byte, hole_byte, clusters_below}

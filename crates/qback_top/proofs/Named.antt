@@ -3,7 +3,7 @@ use Rattle.std.proofs.Common.{◌≡◌, ◌≢◌, ◌⊎◌, inl, inr, ⊎_eli
 use Rattle.std.proofs.lemmas.Bool.{ne_eqb, cases_lt, cases_eq}
 use Rattle.disk_model.specs.Files.{u64_at}
 use Rattle.qc_layout.specs.Entries.{offset_in}
-use Rattle.qc_layout.specs.Image.{l1_offset, host_of, table_offset, clusters_of}
+use Rattle.qc_layout.specs.FirstForm.{l1_offset, host_of, table_offset, clusters_of}
 use Rattle.qback_top.specs.Open.{entry_of, NamesNew, TablesGoOn, GrowsByNamed}
 use Rattle.qback_top.proofs.Disk.{host_none, host_some}
 

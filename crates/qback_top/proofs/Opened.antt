@@ -3,7 +3,7 @@ use Rattle.std.proofs.Common.{◌≡◌, ◌≢◌, ℕ, zero, suc, ◌+◌, ◌
 use Rattle.std.specs.Int.{from_be_bytes, w32, w64}
 use Rattle.disk_model.specs.Files.{reading, u32_at, u64_at}
 use Rattle.qc_layout.specs.Entries.{offset_in}
-use Rattle.qc_layout.specs.Image.{head_of, disk_size, l1_offset, table_offset, host_of, clusters_of, IsPlainEntry, IsFirstForm, IsTaken}
+use Rattle.qc_layout.specs.FirstForm.{head_of, disk_size, l1_offset, table_offset, host_of, clusters_of, IsPlainEntry, IsFirstForm, IsTaken}
 use Rattle.disk_model.specs.declared.depot.FileNo.{FileNo}
 use Rattle.qback_top.specs.declared.image.Image.{Image}
 use Rattle.qback_top.specs.Open.{IsOpen, IsNamed, EntryFits, EntriesFit, TablesFit, HeadFits}

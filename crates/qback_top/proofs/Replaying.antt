@@ -1,13 +1,16 @@
 -- From what the lines of a script did to what the run leaves.
-use Rattle.std.proofs.Common.{ℕ, ◌^◌, ◌≤◌, List, ◌++◌, length, IsTrue, Result, Ok, Err, OnErr, sym, ap, subst, ◌∙◌}
+use Rattle.std.proofs.Common.{inr, refl, ℕ, ◌^◌, ◌≤◌, List, ◌++◌, length, IsTrue, Result, Ok, Err, OnErr, sym, ap, subst, ◌∙◌}
+use Rattle.std.specs.Prelude.{codes}
 use Rattle.disk_model.specs.World.{World, Runs, nothing, reads_of, file_and_text, IsGiven}
 use Rattle.disk_model.proofs.Moments.{Within, nothing_within, given_on, run_more, run_on}
-use Rattle.qc_layout.specs.Image.{IsTaken}
+use Rattle.qc_layout.specs.FirstForm.{IsTaken}
 use Rattle.plain_model.specs.Script.{Order, Say, lines_of}
 use Rattle.plain_model.specs.Replay.{printed_from, disk_from}
 use Rattle.plain_model.proofs.Runs.{now-extended}
 use Rattle.qback_top.specs.Lines.{RanLines, BegunLines, PrintsUntilClosed, Reached}
-use Rattle.qback_top.specs.Ends.{AreThere, IsDue, Ran, looks, works_on, works_on_name, Replayed, ReplayedInPart, Stopped}
+use Rattle.qback_top.specs.Replays.{AreThere, ReplayDue, Replayed, ReplayedInPart}
+use Rattle.qback_top.specs.Endings.{Refused, Ran, looks, works_on, works_on_name}
+use Rattle.qback_top.specs.Shown.{StopsInReplay}
 
 -- ---- parts
 
@@ -70,12 +73,17 @@ module _ {b c : World} {f : ℕ} {orders : List Order} (work : Runs (file_and_te
 
 -- the run was due
 pub run_due : (words : List (List ℕ)) (w : World) (file script : List ℕ) (image text : ℕ) (orders : List Order) → AreThere words w file script image text → length (w.seen text) ≤ 2 ^ 28 → Say (lines_of (w.seen text)) orders → IsTaken (w.seen image)
-    → IsDue words w (Ran image orders)
+    → ReplayDue words w (Ran image orders)
 run_due words w file script image text orders there short says taken = (file, script, text, there, short, says, taken)
+
+-- the image was refused
+pub unbuilt_due : (words : List (List ℕ)) (w : World) (file script : List ℕ) (image text : ℕ) (orders : List Order) → AreThere words w file script image text → length (w.seen text) ≤ 2 ^ 28 → Say (lines_of (w.seen text)) orders
+    → (IsTaken (w.seen image) → ⊥) → ReplayDue words w (Refused file (codes "Unbuilt"))
+unbuilt_due words w file script image text orders there short says refused = inr ((script, image, text, there, short, (orders, says), refused), refl)
 
 -- a run stopped early, whatever error it answers
 abbrev pub StopsFrom : World → World → List ℕ → List ℕ → ℕ → ℕ → Type 0
-StopsFrom a e file script image text = IsTrue a.tells → (words : List (List ℕ)) → AreThere words a file script image text → Stopped words a e
+StopsFrom a e file script image text = IsTrue a.tells → (words : List (List ℕ)) → AreThere words a file script image text → StopsInReplay words a e
 
 pub stops_err : {T E : Type 0} (result : Result T E) (a e : World) (file script : List ℕ) (image text : ℕ) → StopsFrom a e file script image text → OnErr result (StopsFrom a e file script image text)
 stops_err (Ok x) a e file script image text stops = tt

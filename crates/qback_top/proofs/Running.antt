@@ -5,7 +5,7 @@ use Rattle.std.proofs.Math.Seq.{take-append_seam}
 use Rattle.std.proofs.lemmas.List.{append-nil, take-append-drop}
 use Rattle.disk_model.specs.World.{World, Parts, Runs, only_text, file_and_text, PrintsPart, Syncs, HasSynced, IsSound, EachNow}
 use Rattle.disk_model.proofs.Moments.{now_synced, now_spared, rose_after}
-use Rattle.qc_layout.specs.Image.{IsFirstForm, disk_of}
+use Rattle.qc_layout.specs.FirstForm.{IsFirstForm, disk_of}
 use Rattle.plain_model.specs.Script.{Order, Write, Read, Quit, Nothing, lines_of, without_return, Spells, HasNoForm, Say}
 use Rattle.plain_model.specs.Replay.{printed_by, disk_by, printed_from, disk_from, ok_line}
 use Rattle.plain_model.proofs.Sayings.{one_order}

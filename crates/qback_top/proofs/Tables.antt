@@ -6,7 +6,7 @@ use Rattle.disk_model.proofs.Bytes.{overlay_no_shorter, same_file}
 use Rattle.disk_model.proofs.Outcomes.{torn_elsewhere, byte-overlay_outside}
 use Rattle.disk_model.proofs.Words.{reading_same, u64_same}
 use Rattle.qc_layout.specs.Entries.{offset_in}
-use Rattle.qc_layout.specs.Image.{head_of, l1_offset, host_of, table_offset, clusters_of, disk_byte, disk_of, disk_size, IsHeader, IsFirstForm, IsCluster, IsPlainEntry, IsRest}
+use Rattle.qc_layout.specs.FirstForm.{head_of, l1_offset, host_of, table_offset, clusters_of, disk_byte, disk_of, disk_size, IsHeader, IsFirstForm, IsCluster, IsPlainEntry, IsRest}
 use Rattle.qback_top.specs.declared.image.Image.{Image}
 use Rattle.qback_top.specs.Open.{IsOpen, TablesGoOn, Spares, KeepsRest}
 use Rattle.qback_top.proofs.Named.{goes_none, goes_on, grown_on, entry_none, entry_some}

@@ -8,7 +8,7 @@ use Rattle.disk_model.proofs.Bytes.{byte_past, byte-overlay_below, byte-overlay_
 use Rattle.disk_model.proofs.Words.{reading_same, u64_same, word_write}
 use Rattle.disk_model.proofs.Ranges.{mixed_byte, torn_length}
 use Rattle.qc_layout.specs.Entries.{offset_in}
-use Rattle.qc_layout.specs.Image.{head_of, l1_offset, host_of, table_offset, clusters_of, disk_byte, disk_of, disk_size, IsFirstForm}
+use Rattle.qc_layout.specs.FirstForm.{head_of, l1_offset, host_of, table_offset, clusters_of, disk_byte, disk_of, disk_size, IsFirstForm}
 use Rattle.qback_top.specs.Open.{Between, TablesGoOn, Spares}
 use Rattle.qback_top.proofs.Disk.{length-disk_of, byte_of_disk, host_none, host_some, cluster_inside, clusters_below}
 use Rattle.qback_top.proofs.Tables.{changes_torn, goes_kept, same_l1_entry, same_size, same_host, disk_byte_same, disk_same}

@@ -3,7 +3,7 @@ use Rattle.std.proofs.Common.{◌≡◌, ◌≢◌, ◌⊎◌, inl, inr, ⊎_eli
 use Rattle.std.proofs.lemmas.Bool.{cases_lt, cases_eq}
 use Rattle.disk_model.specs.Files.{byte, overlay, u64_at}
 use Rattle.disk_model.proofs.Bytes.{byte-overlay_below, byte-overlay_in, byte-overlay_above, length-overlay_inside, same_file}
-use Rattle.qc_layout.specs.Image.{head_of, l1_offset, host_of, table_offset, clusters_of, disk_byte, disk_of, disk_size, IsFirstForm, IsCluster}
+use Rattle.qc_layout.specs.FirstForm.{head_of, l1_offset, host_of, table_offset, clusters_of, disk_byte, disk_of, disk_size, IsFirstForm, IsCluster}
 use Rattle.qback_top.specs.Open.{Spares, KeepsRest}
 use Rattle.qback_top.proofs.Disk.{length-disk_of, byte_of_disk, cluster_inside, stored_byte, same_cluster, in_cluster, clusters_below}
 use Rattle.qback_top.proofs.Tables.{ChangesOnly, changes_overlay, u64_kept, head_kept, parts_apart, spares, goes_kept, rest_stored, rest_kept, SameTables, same_host, same_size, disk_byte_same}

@@ -1,7 +1,14 @@
+pub mod Creations
+pub mod Descriptions
+pub mod Endings
 pub mod Ends
+pub mod Forms
+pub mod Infos
 pub mod Laws
 pub mod Lines
 pub mod Open
+pub mod Replays
 pub mod Shown
 pub mod Stops
 pub mod Text
+pub mod Words

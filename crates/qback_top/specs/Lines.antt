@@ -1,7 +1,7 @@
 -- What carrying out a script's lines does, where files are told.
 use Rattle.std.specs.Prelude.{◌≡◌, ◌⊎◌, ℕ, ◌+◌, ◌≤◌, ◌++◌, List, length, take, IsTrue}
 use Rattle.disk_model.specs.World.{World, EachNow, PrintsPart}
-use Rattle.qc_layout.specs.Image.{IsFirstForm, disk_of}
+use Rattle.qc_layout.specs.FirstForm.{IsFirstForm, disk_of}
 use Rattle.plain_model.specs.Script.{Order}
 use Rattle.plain_model.specs.Replay.{printed_by, disk_by, printed_from, disk_from, ok_line}
 use Rattle.qback_top.specs.declared.image.Image.{Image}

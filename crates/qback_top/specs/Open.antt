@@ -2,7 +2,7 @@
 use Rattle.std.specs.Prelude.{◌≡◌, ◌≢◌, ◌⊎◌, ◌==◌, if◌then◌else◌, ℕ, ◌+◌, ◌*◌, ◌/◌, ◌%◌, ◌^◌, ◌<◌, ◌≤◌, List, length, IsTrue, Result, OnErr}
 use Rattle.disk_model.specs.Files.{byte, u64_at, reading}
 use Rattle.qc_layout.specs.Entries.{offset_in}
-use Rattle.qc_layout.specs.Image.{IsFirstForm, IsHeader, IsPlainEntry, IsRest, head_of, disk_of, disk_size, l1_offset, table_offset, host_of, clusters_of}
+use Rattle.qc_layout.specs.FirstForm.{IsFirstForm, IsHeader, IsPlainEntry, IsRest, head_of, disk_of, disk_size, l1_offset, table_offset, host_of, clusters_of}
 use Rattle.disk_model.specs.World.{World, Rose}
 use Rattle.qback_top.specs.declared.image.Image.{Image}
 

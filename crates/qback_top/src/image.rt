@@ -4,7 +4,7 @@ ghost use Rattle.std.specs.Prelude.{◌≡◌, ◌≢◌, ◌+◌, ◌*◌, ◌/
 ghost use Rattle.disk_model.specs.Files.{overlay, reading, u64_at};
 ghost use Rattle.disk_model.specs.World.{World, Runs, reads_of, writes_of, only_file, ReadCause, WriteCause, Writes, HasWritten};
 ghost use Rattle.qc_layout.specs.Entries.{offset_in};
-ghost use Rattle.qc_layout.specs.Image.{host_of, table_offset, clusters_of};
+ghost use Rattle.qc_layout.specs.FirstForm.{host_of, table_offset, clusters_of};
 ghost use Rattle.qback_top.specs.Open.{file_in, disk_in, IsOpen, WhereOpen, WhereInside, HasDisk, Spares, Between, KeepsRest, Goes, FileCause};
 
 use disk_model::{Depot, Failed, FileNo};

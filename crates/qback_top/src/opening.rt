@@ -4,7 +4,7 @@ ghost use Rattle.std.specs.Prelude.{◌≡◌, ◌≢◌, ◌+◌, ◌*◌, ◌<
 ghost use Rattle.disk_model.specs.World.{World, Runs, reads_of, ReadCause};
 ghost use Rattle.disk_model.specs.Files.{u32_at, u64_at, reading};
 ghost use Rattle.qc_layout.specs.Entries.{offset_in};
-ghost use Rattle.qc_layout.specs.Image.{IsTaken, IsHeader};
+ghost use Rattle.qc_layout.specs.FirstForm.{IsTaken, IsHeader};
 ghost use Rattle.qback_top.specs.Open.{IsOpen, IsNamed, EntryFits, EntriesFit, TablesFit, HeadFits};
 
 use crate::image::{CLUSTER, Image};

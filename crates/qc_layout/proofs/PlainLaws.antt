@@ -6,7 +6,7 @@ use Rattle.qc_layout.specs.declared.entry.EntryFault.{EntryFault}
 use Rattle.qc_layout.specs.declared.entry.EntryFault.TheVariants.{Reserved, Misaligned}
 use Rattle.qc_layout.specs.declared.entry.L2Entry.TheVariants.{Hole, Stored}
 use Rattle.qc_layout.specs.Entries.{offset_in, l1_of, l2_of}
-use Rattle.qc_layout.specs.Image.{IsPlainEntry}
+use Rattle.qc_layout.specs.FirstForm.{IsPlainEntry}
 use Rattle.qc_layout.proofs.EntryLaws.{told, told_stored}
 
 -- a plain entry whose offset is aligned, and that offset

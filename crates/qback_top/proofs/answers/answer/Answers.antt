@@ -2,7 +2,7 @@ use Rattle.std.proofs.Common.{◌+◌, ◌≤◌, length, IsTrue, refl, ap, ◌�
 use Rattle.disk_model.specs.Files.{overlay}
 use Rattle.disk_model.specs.World.{only_file}
 use Rattle.disk_model.proofs.Moments.{stay}
-use Rattle.qc_layout.specs.Image.{disk_of, disk_size}
+use Rattle.qc_layout.specs.FirstForm.{disk_of, disk_size}
 use Rattle.plain_model.specs.Replay.{ok_line, invalid_line}
 use Rattle.qback_top.specs.Text.{order}
 use Rattle.qback_top.specs.Open.{IsOpen}

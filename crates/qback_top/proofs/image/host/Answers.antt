@@ -1,7 +1,7 @@
 use Rattle.std.proofs.Common.{◌≡◌, ◌≢◌, ◌+◌, ◌*◌, ℕ, List, IsTrue, subst, ◌∙◌, sym, ap}
 use Rattle.qc_layout.specs.Entries.{offset_in}
 use Rattle.disk_model.specs.Files.{u64_at}
-use Rattle.qc_layout.specs.Image.{table_offset}
+use Rattle.qc_layout.specs.FirstForm.{table_offset}
 use Rattle.qback_top.proofs.Disk.{host_none, host_some}
 use Rattle.qback_top.proofs.image.host.Goals as goal
 

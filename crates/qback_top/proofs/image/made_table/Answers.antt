@@ -1,7 +1,7 @@
 use Rattle.std.proofs.Common.{◌≡◌, ◌+◌, ◌^◌, ℕ, List, IsTrue, refl, sym, ap, subst, ◌∙◌, arith}
 use Rattle.disk_model.specs.World.{Runs, only_file}
 use Rattle.disk_model.proofs.Moments.{run_on}
-use Rattle.qc_layout.specs.Image.{table_offset, disk_of}
+use Rattle.qc_layout.specs.FirstForm.{table_offset, disk_of}
 use Rattle.qback_top.specs.declared.image.Image.{Image}
 use Rattle.qback_top.specs.Open.{IsOpen, Spares}
 use Rattle.qback_top.proofs.Links.{Tabled, tabled_table, tabled_same, tabled_disk, tabled_keeps, tabled_some}

@@ -4,7 +4,7 @@ use Rattle.std.proofs.lemmas.Slice.{take-put_mid}
 use Rattle.disk_model.specs.Files.{reading}
 use Rattle.disk_model.specs.World.{reads_of}
 use Rattle.disk_model.proofs.Moments.{run_on, stay}
-use Rattle.qc_layout.specs.Image.{disk_of, disk_size}
+use Rattle.qc_layout.specs.FirstForm.{disk_of, disk_size}
 use Rattle.qback_top.specs.Open.{IsOpen}
 use Rattle.qback_top.proofs.Disk.{reading_two, length_mid, length_put, reading_none}
 use Rattle.qback_top.proofs.image.read.Goals as goal

@@ -1,7 +1,7 @@
 use Rattle.std.proofs.Common.{length, ◌-◌, ◌≡◌, ◌+◌, ◌≤◌, take, IsTrue}
 use Rattle.disk_model.specs.Files.{reading}
 use Rattle.disk_model.specs.World.{Runs, reads_of}
-use Rattle.qc_layout.specs.Image.{disk_of, disk_size}
+use Rattle.qc_layout.specs.FirstForm.{disk_of, disk_size}
 use Rattle.qback_top.specs.Open.{IsOpen}
 use Rattle.qback_top.proofs.image.read.Given as goal
 

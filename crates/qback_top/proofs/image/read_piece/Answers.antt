@@ -1,6 +1,6 @@
 use Rattle.std.proofs.Common.{◌≡◌, ◌≢◌, ◌+◌, ◌/◌, ◌%◌, ℕ, List, IsTrue, length, subst, ◌∙◌, sym, ap}
 use Rattle.disk_model.specs.Files.{reading}
-use Rattle.qc_layout.specs.Image.{host_of}
+use Rattle.qc_layout.specs.FirstForm.{host_of}
 use Rattle.qback_top.proofs.Disk.{hole_piece, stored_piece}
 use Rattle.qback_top.proofs.image.read_piece.Goals as goal
 

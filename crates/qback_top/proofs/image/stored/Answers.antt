@@ -2,7 +2,7 @@ use Rattle.std.proofs.Common.{◌≡◌, ◌≢◌, ◌^◌, ◌<◌, ℕ, List,
 use Rattle.disk_model.specs.World.{World, Runs, reads_of, only_file}
 use Rattle.disk_model.proofs.Moments.{run_on}
 use Rattle.disk_model.specs.declared.depot.FileNo.{FileNo}
-use Rattle.qc_layout.specs.Image.{host_of, table_offset, clusters_of, disk_of}
+use Rattle.qc_layout.specs.FirstForm.{host_of, table_offset, clusters_of, disk_of}
 use Rattle.qback_top.specs.declared.image.Image.{Image}
 use Rattle.qback_top.specs.Open.{IsOpen, Spares, KeepsRest}
 use Rattle.qback_top.proofs.Disk.{same_disk_size}

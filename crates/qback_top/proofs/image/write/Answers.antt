@@ -6,7 +6,7 @@ use Rattle.disk_model.specs.Files.{overlay}
 use Rattle.disk_model.specs.World.{Runs, only_file}
 use Rattle.disk_model.proofs.Bytes.{overlay_empty, length-overlay_inside}
 use Rattle.disk_model.proofs.Moments.{run_on, stay}
-use Rattle.qc_layout.specs.Image.{disk_of, disk_size}
+use Rattle.qc_layout.specs.FirstForm.{disk_of, disk_size}
 use Rattle.qback_top.specs.Open.{IsOpen}
 use Rattle.qback_top.proofs.Disk.{length-disk_of}
 use Rattle.qback_top.proofs.Tables.{keeps_none}

@@ -1,7 +1,7 @@
 use Rattle.std.proofs.Common.{length, take, ◌-◌, ◌*◌, ◌%◌, ◌≡◌, ◌≢◌, ◌+◌, ◌≤◌, ◌<◌, IsTrue}
 use Rattle.disk_model.specs.Files.{overlay}
 use Rattle.disk_model.specs.World.{Runs, only_file}
-use Rattle.qc_layout.specs.Image.{disk_of, disk_size}
+use Rattle.qc_layout.specs.FirstForm.{disk_of, disk_size}
 use Rattle.qback_top.specs.Open.{IsOpen, KeepsRest}
 use Rattle.qback_top.proofs.image.write.Given as goal
 

@@ -1,7 +1,7 @@
 use Rattle.std.proofs.Common.{◌<◌, ◌≤◌, ◌+◌, ◌/◌, IsTrue, length, ap, arith}
 use Rattle.disk_model.specs.declared.depot.FileNo.{FileNo}
 use Rattle.disk_model.specs.Files.{overlay}
-use Rattle.qc_layout.specs.Image.{disk_size, disk_of, clusters_of}
+use Rattle.qc_layout.specs.FirstForm.{disk_size, disk_of, clusters_of}
 use Rattle.qback_top.specs.Open.{IsOpen, Spares, Between}
 use Rattle.qback_top.proofs.Growing.{Stored, stored, stored_spares, stored_between, stored_written}
 use Rattle.qback_top.proofs.Torn.{between_first}

@@ -2,7 +2,7 @@ use Rattle.std.proofs.Common.{ℕ, List, IsTrue, Bool, length, ap, sym, subst, �
 use Rattle.std.specs.Prelude.{◌↔◌}
 use Rattle.std.proofs.lemmas.Bool.{false≢true}
 use Rattle.disk_model.specs.Files.{reading}
-use Rattle.qc_layout.specs.Image.{head_of}
+use Rattle.qc_layout.specs.FirstForm.{head_of}
 use Rattle.qback_top.specs.declared.image.Image.{Image}
 use Rattle.qback_top.specs.Open.{HeadFits, TablesFit}
 use Rattle.qback_top.proofs.Opened.{IsDescribed, described, opened, not_opened}

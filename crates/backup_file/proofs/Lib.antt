@@ -1,0 +1,5 @@
+mod Calls
+mod Counting
+mod Laying
+mod NewFiles
+mod Sizes

@@ -1,0 +1,6 @@
+pub mod Creating
+pub mod Headings
+pub mod Laws
+pub mod Layout
+pub mod Made
+pub mod Plans

@@ -1,0 +1,74 @@
+-- A file spells one header, or has one fault.
+use Rattle.std.proofs.Common.{◌≡◌, inl, inr, ℕ, List, ◌++◌, Option, Some, None, sym, ap, ◌∙◌, subst}
+use Rattle.qc_layout.specs.declared.extension.Extension.{Extension}
+use Rattle.qc_layout.specs.declared.header.Header.{Header}
+use Rattle.qc_layout.specs.declared.header.Part.{Part}
+use Rattle.qc_layout.specs.declared.header.HeaderFault.{HeaderFault}
+use Rattle.qc_layout.specs.Header.{fields_of, first_of}
+use Rattle.qc_layout.specs.Extensions.{extension_rules, tail_of, kept_bytes, bitmaps_in, own_in, place_in, first_of_kind, bitmaps_kind, own_kind}
+use Rattle.qc_layout.specs.Spelling.{AreIn, Spells, IsHeaderOf, IsFault}
+use Rattle.qc_layout.specs.Laws.{SameHeader}
+use Rattle.qc_layout.proofs.Listing.{one_listing}
+
+-- a file's list of extensions is one
+pub one_in : (file : List ℕ) (es other : List Extension) → AreIn file es → AreIn file other → es ≡ other
+one_in file es other = one_listing file _ _ es other
+
+-- of two answers one is right
+some_one : (o : Option HeaderFault) (a b : HeaderFault) → o ≡ Some a → o ≡ Some b → a ≡ b
+some_one o a b is other = cc
+
+some_none : (o : Option HeaderFault) (a : HeaderFault) → o ≡ Some a → o ≡ None → ⊥
+some_none o a is none = cc
+
+pub one_fault : (part : Part) (file : List ℕ) (a b : HeaderFault) → IsFault part file a → IsFault part file b → a ≡ b
+one_fault part file a b (inl x) (inl y) = some_one _ a b x y
+one_fault part file a b (inl x) (inr (inl y)) = absurd (some_none _ a x y.0)
+one_fault part file a b (inl x) (inr (inr y)) = absurd (some_none _ a x y.0)
+one_fault part file a b (inr (inl x)) (inl y) = absurd (some_none _ b y x.0)
+one_fault part file a b (inr (inl x)) (inr (inl y)) = x.1 ∙ sym y.1
+one_fault part file a b (inr (inl x)) (inr (inr y)) = absurd (x.2 y.1.0 y.1.1)
+one_fault part file a b (inr (inr x)) (inl y) = absurd (some_none _ b y x.0)
+one_fault part file a b (inr (inr x)) (inr (inl y)) = absurd (y.2 x.1.0 x.1.1)
+one_fault part file a b (inr (inr x)) (inr (inr y)) =
+    some_one (first_of (extension_rules part file (fields_of file) y.1.0)) a b
+    (subst (λ (es : List Extension). first_of (extension_rules part file (fields_of file) es) ≡ Some a) (one_in file x.1.0 y.1.0 x.1.1 y.1.1) x.1.2) y.1.2
+
+pub fault_or_header : (part : Part) (file : List ℕ) (h : Header) (a : HeaderFault) → Spells part file h → IsFault part file a → ⊥
+fault_or_header part file h a is (inl x) = some_none _ a x is.numbers
+fault_or_header part file h a is (inr (inl x)) = x.2 is.extensions is.listed
+fault_or_header part file h a is (inr (inr x)) =
+    some_none (first_of (extension_rules part file (fields_of file) is.extensions)) a
+    (subst (λ (es : List Extension). first_of (extension_rules part file (fields_of file) es) ≡ Some a) (one_in file x.1.0 is.extensions x.1.1 is.listed) x.1.2) is.rules
+
+pub one_header : (part : Part) (file : List ℕ) (h g : Header) → IsHeaderOf part file h → IsHeaderOf part file g → SameHeader h g
+one_header part file h g is other =
+    let f = is.spells.fields in
+    let k = other.spells.fields in
+    let es = is.spells.extensions in
+    let same : other.spells.extensions ≡ es = one_in file other.spells.extensions es other.spells.listed is.spells.listed in
+    let length_same : h.header_length ≡ g.header_length = f.header_length ∙ sym k.header_length in
+    record {
+      backing_file_offset = f.backing_file_offset ∙ sym k.backing_file_offset;
+      backing_file_size = f.backing_file_size ∙ sym k.backing_file_size;
+      cluster_bits = f.cluster_bits ∙ sym k.cluster_bits;
+      size = f.size ∙ sym k.size;
+      crypt_method = f.crypt_method ∙ sym k.crypt_method;
+      l1_size = f.l1_size ∙ sym k.l1_size;
+      l1_table_offset = f.l1_table_offset ∙ sym k.l1_table_offset;
+      refcount_table_offset = f.refcount_table_offset ∙ sym k.refcount_table_offset;
+      refcount_table_clusters = f.refcount_table_clusters ∙ sym k.refcount_table_clusters;
+      nb_snapshots = f.nb_snapshots ∙ sym k.nb_snapshots;
+      snapshots_offset = f.snapshots_offset ∙ sym k.snapshots_offset;
+      incompatible_features = f.incompatible_features ∙ sym k.incompatible_features;
+      compatible_features = f.compatible_features ∙ sym k.compatible_features;
+      autoclear_features = f.autoclear_features ∙ sym k.autoclear_features;
+      refcount_order = f.refcount_order ∙ sym k.refcount_order;
+      header_length = length_same;
+      compression_type = f.compression_type ∙ sym k.compression_type;
+      kept = is.spells.kept ∙ ap (λ (n : ℕ). tail_of file n ++ kept_bytes file es) length_same
+          ∙ sym (other.spells.kept ∙ ap (λ (l : List Extension). tail_of file g.header_length ++ kept_bytes file l) same);
+      bitmaps = is.spells.bitmaps ∙ sym (other.spells.bitmaps ∙ ap (λ (l : List Extension). bitmaps_in file (first_of_kind bitmaps_kind l)) same);
+      own = is.spells.own ∙ sym (other.spells.own ∙ ap (λ (l : List Extension). own_in file (first_of_kind own_kind l)) same);
+      own_at = is.own_at ∙ sym (other.own_at ∙ ap (λ (l : List Extension). place_in (first_of_kind own_kind l)) same);
+    }

@@ -1,0 +1,61 @@
+-- The header that was made is the one that the bytes spell.
+use Rattle.std.proofs.Common.{◌≡◌, ℕ, List, ◌++◌, length, None, sym, ap, ◌∙◌, subst, arith}
+use Rattle.std.specs.List.{All}
+use Rattle.std.proofs.lemmas.List.Elements.{All-same}
+use Rattle.qc_layout.specs.declared.extension.Extension.{Extension}
+use Rattle.qc_layout.specs.declared.header.Fields.{Fields}
+use Rattle.qc_layout.specs.declared.header.Header.{Header}
+use Rattle.qc_layout.specs.declared.header.Part.{Part}
+use Rattle.qc_layout.specs.Header.{fields_of, first_of, number_fault}
+use Rattle.qc_layout.specs.Extensions.{AreExtensions, list_end, extension_rules, tail_of, kept_bytes}
+use Rattle.qc_layout.specs.Reading.{IsNear, IsMade}
+use Rattle.qc_layout.specs.Spelling.{AreIn, IsHeaderOf}
+use Rattle.qc_layout.proofs.Passing.{listing_near}
+
+-- extensions that were listed are near, under another name too
+pub listed_near : (file : List ℕ) (end from bits : ℕ) (es passed : List Extension) → end ≡ list_end bits → AreExtensions file end from es → passed ≡ es → All IsNear passed
+listed_near file end from bits es passed is are same = All-same IsNear passed es same (listing_near file end from es (omega (arith, is)) are)
+
+-- what was made of a file's numbers and extensions
+made_of : (part : Part) (file : List ℕ) (es : List Extension) (h : Header) → number_fault part (length file) (fields_of file) ≡ None → AreIn file es
+    → first_of (extension_rules part file (fields_of file) es) ≡ None → IsMade file (fields_of file) es h → IsHeaderOf part file h
+made_of part file es h numbers listed rules made = record {
+  spells = record {
+    numbers = numbers;
+    fields = made.fields;
+    extensions = es;
+    listed = listed;
+    rules = rules;
+    kept = made.kept ∙ ap (λ (n : ℕ). tail_of file n ++ kept_bytes file es) (sym made.fields.header_length);
+    bitmaps = made.bitmaps;
+    own = made.own;
+  };
+  own_at = made.own_at;
+}
+
+-- what a run read and found
+pub record HasRead (part : Part) (file : List ℕ) (f : Fields) (end from : ℕ) (es passed : List Extension) : Type 0 where
+  pub read : f ≡ fields_of file
+  pub ends : end ≡ list_end f.cluster_bits
+  pub starts : from ≡ f.header_length
+  pub numbers : number_fault part (length file) f ≡ None
+  pub listed : AreExtensions file end from es
+  pub same : passed ≡ es
+
+-- the extensions are those of the file
+pub read_listed : (part : Part) (file : List ℕ) (f : Fields) (end from : ℕ) (es passed : List Extension) → HasRead part file f end from es passed → AreIn file passed
+read_listed part file f end from es passed has =
+    let e : end ≡ list_end (fields_of file).cluster_bits = has.ends ∙ ap (λ (g : Fields). list_end g.cluster_bits) has.read in
+    let s : from ≡ (fields_of file).header_length = has.starts ∙ ap (λ (g : Fields). g.header_length) has.read in
+    subst (λ (n : ℕ). AreExtensions file (list_end (fields_of file).cluster_bits) n passed) s
+    (subst (λ (n : ℕ). AreExtensions file n from passed) e
+    (subst (λ (l : List Extension). AreExtensions file end from l) (sym has.same) has.listed))
+
+pub read_made : (part : Part) (file : List ℕ) (f : Fields) (end from : ℕ) (es passed : List Extension) (h : Header) → HasRead part file f end from es passed
+    → first_of (extension_rules part file f passed) ≡ None → IsMade file f passed h → IsHeaderOf part file h
+read_made part file f end from es passed h has rules made =
+    made_of part file passed h
+    (subst (λ (g : Fields). number_fault part (length file) g ≡ None) has.read has.numbers)
+    (read_listed part file f end from es passed has)
+    (subst (λ (g : Fields). first_of (extension_rules part file g passed) ≡ None) has.read rules)
+    (subst (λ (g : Fields). IsMade file g passed h) has.read made)

@@ -1,0 +1,88 @@
+-- What holds where the rules of a header pass.
+use Rattle.std.proofs.Common.{◌≡◌, ℕ, ◌%◌, ◌≤◌, Bool, true, false, List, [], ◌∷◌, Option, Some, None, refl, arith}
+use Rattle.std.specs.Prelude.{not, nat_lt, ◌==◌, ◌||◌, if◌then◌else◌}
+use Rattle.std.specs.List.{All}
+use Rattle.std.proofs.lemmas.Bool.Decides.{nat_tests}
+use Rattle.std.proofs.lemmas.List.Elements.{All-nil, All-cons}
+use Rattle.qc_layout.specs.declared.extension.Extension.{Extension}
+use Rattle.qc_layout.specs.declared.header.Fields.{Fields}
+use Rattle.qc_layout.specs.declared.header.Part.{Part}
+use Rattle.qc_layout.specs.declared.header.HeaderFault.{HeaderFault}
+use Rattle.qc_layout.specs.Header.{Rule, first_of, or_else, form_rules, feature_rules, table_rules, number_fault, is_bits}
+use Rattle.qc_layout.specs.Extensions.{IsExtension, AreExtensions, behind}
+use Rattle.qc_layout.specs.Reading.{IsNear}
+
+-- ---- rules
+
+-- neither of two, where there is none
+pub none_left : (a b : Option HeaderFault) → or_else a b ≡ None → a ≡ None
+none_left None b h = refl
+none_left (Some x) b h = absurd cc
+
+pub none_right : (a b : Option HeaderFault) → or_else a b ≡ None → b ≡ None
+none_right None b h = h
+none_right (Some x) b h = absurd cc
+
+-- a rule that passed
+pub record IsPassed (fails : Bool) (rest : Option HeaderFault) : Type 0 where
+  pub here : fails ≡ false
+  pub on : rest ≡ None
+
+pub passed : (fails : Bool) (fault : HeaderFault) (rest : Option HeaderFault) → (if fails then Some fault else rest) ≡ None → IsPassed fails rest
+passed true fault rest h = absurd cc
+passed false fault rest h = record { here = refl; on = h }
+
+-- what the rules of its form say of a header
+pub record Passes (length : ℕ) (h : Fields) : Type 0 where
+  pub long : 104 ≤ length
+  pub length_low : 104 ≤ h.header_length
+  pub length_high : h.header_length ≤ 504
+  pub length_whole : h.header_length % 8 ≡ 0
+  pub bits_low : 9 ≤ h.cluster_bits
+  pub bits_high : h.cluster_bits ≤ 21
+
+long_enough : (length : ℕ) → nat_lt length 104 ≡ false → 104 ≤ length
+long_enough length h = grind (arith, nat_tests)
+
+pub record IsLength (n : ℕ) : Type 0 where
+  pub low : 104 ≤ n
+  pub high : n ≤ 504
+  pub whole : n % 8 ≡ 0
+
+length_is : (n : ℕ) → (nat_lt n 104 || nat_lt 504 n || not (n % 8 == 0)) ≡ false → IsLength n
+length_is n h = record { low = grind (arith, nat_tests); high = grind (arith, nat_tests); whole = grind (arith, nat_tests) }
+
+pub record AreBits (n : ℕ) : Type 0 where
+  pub low : 9 ≤ n
+  pub high : n ≤ 21
+
+bits_are : (n : ℕ) → not (is_bits n) ≡ false → AreBits n
+bits_are n h = record { low = grind (arith, nat_tests); high = grind (arith, nat_tests) }
+
+-- each rule passed
+abbrev pub AllPass : List Rule → Type 0
+AllPass [] = Unit {0}
+AllPass (r ∷ rs) = (r.fails ≡ false) × AllPass rs
+
+pub all_pass : (rs : List Rule) → first_of rs ≡ None → AllPass rs
+all_pass [] none = tt
+all_pass (r ∷ rs) none = let p = passed r.fails r.fault (first_of rs) none in (p.here, all_pass rs p.on)
+
+form_passes : (length : ℕ) (h : Fields) → first_of (form_rules length h) ≡ None → Passes length h
+form_passes length h none =
+    let t = all_pass (form_rules length h) none in
+    let l = length_is h.header_length t.1.1.1.0 in
+    let b = bits_are h.cluster_bits t.1.1.1.1.0 in
+    record { long = long_enough length t.0; length_low = l.low; length_high = l.high; length_whole = l.whole; bits_low = b.low; bits_high = b.high }
+
+pub numbers_pass : (part : Part) (length : ℕ) (h : Fields) → number_fault part length h ≡ None → Passes length h
+numbers_pass part length h none = form_passes length h (none_left (first_of (form_rules length h)) (or_else (first_of (feature_rules part h)) (first_of (table_rules h))) none)
+
+-- ---- the list
+
+-- its extensions stand before its end
+pub listing_near : (file : List ℕ) (end from : ℕ) (es : List Extension) → end ≤ 65536 → AreExtensions file end from es → All IsNear es
+listing_near file end from [] small are = All-nil IsNear
+listing_near file end from (e ∷ es) small are =
+    let is : IsExtension file end from e = are.0 in
+    All-cons IsNear e es (record { low = omega (arith, is.place); high = omega (arith, is.whole) }) (listing_near file end (behind e) es small are.1)

@@ -1,0 +1,57 @@
+-- Steps that write behind one another.
+use Rattle.std.proofs.Common.{◌≡◌, inl, inr, ℕ, ◌+◌, ◌-◌, min, List, [], ◌++◌, length, take, drop, replicate, sym, ap, ◌∙◌, subst, arith, append_assoc, length-append}
+use Rattle.std.proofs.lemmas.List.{append-nil, drop-replicate, drop_all}
+use Rattle.std.proofs.lemmas.Bool.{cases_lt}
+use Rattle.std.proofs.Math.Seq.{take-append_seam, drop-append-add}
+use Rattle.qc_layout.specs.Spelling.{Puts, sector_with}
+
+-- nothing is written
+pub puts_none : (bytes old : List ℕ) (place : ℕ) → bytes ≡ [] → Puts bytes old place old place
+puts_none bytes old place none = record {
+  behind = λ before room start is.
+      let same : before ≡ before ++ bytes = sym (append-nil before) ∙ ap (λ (l : List ℕ). before ++ l) (sym none) in
+      (start ∙ ap length same, is ∙ ap sector_with same);
+}
+
+-- one step behind the other
+pub puts_on : {a b old mid new : List ℕ} {place next end : ℕ} → Puts a old place mid next → Puts b mid next new end → Puts (a ++ b) old place new end
+puts_on {a} {b} {old} {mid} {new} {place} {next} {end} first second = record {
+  behind = λ before room start is.
+      let long = length-append a b in
+      let whole = length-append before a in
+      let one = first.behind before (omega arith) start is in
+      let two = second.behind (before ++ a) (omega arith) one.0 one.1 in
+      let same : (before ++ a) ++ b ≡ before ++ (a ++ b) = append_assoc before a b in
+      (two.0 ∙ ap length same, two.1 ∙ ap sector_with same);
+}
+
+-- the same bytes
+pub puts_as : {a b old new : List ℕ} {place end : ℕ} → a ≡ b → Puts a old place new end → Puts b old place new end
+puts_as {a} {b} {old} {new} {place} {end} is puts = subst (λ (l : List ℕ). Puts l old place new end) is puts
+
+-- bytes that were put over others
+pub puts_over : (bytes old new : List ℕ) (place : ℕ) → new ≡ take place old ++ bytes ++ drop (place + length bytes) old → Puts bytes old place new (place + length bytes)
+puts_over bytes old new place put = record {
+  behind = λ before room start is.
+      let zeros : List ℕ = replicate (512 - length before) 0 in
+      let long = length-append before bytes in
+      let count : 512 - length before - length bytes ≡ 512 - length (before ++ bytes) = omega arith in
+      let front : take place old ≡ before = ap (λ (n : ℕ). take n old) start ∙ ap (take (length before)) is ∙ take-append_seam before zeros in
+      let fewer : drop (length bytes) zeros ≡ replicate (512 - length (before ++ bytes)) 0 =
+      subst (λ (n : ℕ). drop (length bytes) zeros ≡ replicate n 0) count (drop-replicate (length bytes) (512 - length before) 0) in
+      let past : drop (length before + length bytes) (before ++ zeros) ≡ drop (length bytes) zeros = drop-append-add before zeros (length bytes) in
+      let rest : drop (place + length bytes) old ≡ replicate (512 - length (before ++ bytes)) 0 =
+      ap (λ (n : ℕ). drop (n + length bytes) old) start ∙ ap (drop (length before + length bytes)) is ∙ past ∙ fewer in (
+        omega arith,
+        put
+            ∙ ap (λ (l : List ℕ). l ++ bytes ++ drop (place + length bytes) old) front
+            ∙ ap (λ (l : List ℕ). before ++ bytes ++ l) rest,
+      );
+}
+
+-- what is behind the first bytes of a list, as many as it has at most
+pub drop_least : (n : ℕ) (l : List ℕ) → drop (min n (length l)) l ≡ drop n l
+drop_least n l = elim (cases_lt n (length l)) [
+  | inl less ↦ (let same : min n (length l) ≡ n = omega arith in ap (λ (k : ℕ). drop k l) same)
+  | inr more ↦ (let same : min n (length l) ≡ length l = omega arith in ap (λ (k : ℕ). drop k l) same ∙ drop_all (length l) l (omega arith) ∙ sym (drop_all n l more))
+]

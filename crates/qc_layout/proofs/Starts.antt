@@ -1,0 +1,318 @@
+-- What is read of a file depends on its first sector alone, and on its first cluster up to 65536 bytes.
+use Rattle.std.proofs.Common.{◌≡◌, ◌⊎◌, inl, inr, ℕ, ◌+◌, ◌-◌, ◌*◌, ◌%◌, ◌^◌, ◌<◌, ◌≤◌, max, Bool, true, false, List, [], ◌∷◌, ◌++◌, length, take, Option, Some, None, refl, sym, ap, ◌∙◌, subst, arith, get_or-take, length-take}
+use Rattle.std.specs.Prelude.{not, nat_lt, ◌==◌, ◌||◌, if◌then◌else◌}
+use Rattle.std.proofs.lemmas.Bool.{eqb-true}
+use Rattle.std.proofs.lemmas.Bool.Decides.{nat_tests}
+use Rattle.std.proofs.lemmas.Nat.{pow-add}
+use Rattle.disk_model.specs.Files.{byte, reading, u32_at, u64_at}
+use Rattle.disk_model.proofs.Laws.{byte-reading, reading-reading, reading_same, u32_as, u64_as}
+use Rattle.qc_layout.specs.declared.extension.Extension.{Extension}
+use Rattle.qc_layout.specs.declared.header.Fields.{Fields}
+use Rattle.qc_layout.specs.declared.header.Header.{Header}
+use Rattle.qc_layout.specs.declared.header.Own.TheVariants as owns
+use Rattle.qc_layout.specs.declared.header.Part.{Part}
+use Rattle.qc_layout.specs.declared.header.Part.TheVariants as parts
+use Rattle.qc_layout.specs.declared.header.HeaderFault.{HeaderFault}
+use Rattle.qc_layout.specs.Header.{first_of, fields_of, number_fault, is_place}
+use Rattle.qc_layout.specs.Extensions.{IsEnd, IsExtension, AreExtensions, behind, padded, list_end, extension_rules, is_bad_bitmaps, is_bad_own, is_kept, bytes_of, kept_bytes, tail_of, bitmaps_in, own_in, first_of_kind, bitmaps_kind, own_kind}
+use Rattle.qc_layout.specs.Disks as disks
+use Rattle.qc_layout.specs.Disks.{IsBackup, IsReadAs}
+use Rattle.qc_layout.specs.Spelling.{HasFields, AreIn, IsHeaderOf, IsFault}
+use Rattle.qc_layout.specs.Laws.{BeginAlike, start_length, start_of}
+use Rattle.qc_layout.proofs.Passing.{Passes, all_pass, numbers_pass}
+
+-- ---- bytes and numbers
+
+most_left : (a b n : ℕ) → max a b ≤ n → a ≤ n
+most_left a b n most = omega arith
+
+most_right : (a b n : ℕ) → max a b ≤ n → b ≤ n
+most_right a b n most = omega arith
+
+pub alike_reading : {n : ℕ} (a b : List ℕ) (at count : ℕ) → BeginAlike n a b → at + count ≤ n → reading a at count ≡ reading b at count
+alike_reading {n} a b at count alike inside =
+    let z : 0 + at ≡ at = omega arith in
+    ap (λ (p : ℕ). reading a p count) (sym z)
+    ∙ sym (reading-reading a 0 n at count inside)
+    ∙ ap (λ (l : List ℕ). reading l at count) alike.bytes
+    ∙ reading-reading b 0 n at count inside
+    ∙ ap (λ (p : ℕ). reading b p count) z
+
+pub alike_32 : {n : ℕ} (a b : List ℕ) (at : ℕ) → BeginAlike n a b → at + 4 ≤ n → u32_at a at ≡ u32_at b at
+alike_32 a b at alike inside = u32_as a b at at (alike_reading a b at 4 alike inside)
+
+pub alike_64 : {n : ℕ} (a b : List ℕ) (at : ℕ) → BeginAlike n a b → at + 8 ≤ n → u64_at a at ≡ u64_at b at
+alike_64 a b at alike inside = u64_as a b at at (alike_reading a b at 8 alike inside)
+
+pub alike_byte : {n : ℕ} (a b : List ℕ) (at : ℕ) → BeginAlike n a b → at < n → byte a at ≡ byte b at
+alike_byte {n} a b at alike inside =
+    let z : 0 + at ≡ at = omega arith in
+    ap (byte a) (sym z) ∙ sym (byte-reading a 0 n at inside) ∙ ap (λ (l : List ℕ). byte l at) alike.bytes ∙ byte-reading b 0 n at inside ∙ ap (byte b) z
+
+-- they begin with a sector, and with the list of extensions
+pub alike_sector : {n : ℕ} (a b : List ℕ) → BeginAlike n a b → 512 ≤ n
+alike_sector {n} a b alike = most_left 512 (list_end (fields_of a).cluster_bits) n alike.enough
+
+pub alike_list : {n : ℕ} (a b : List ℕ) → BeginAlike n a b → list_end (fields_of a).cluster_bits ≤ n
+alike_list {n} a b alike = most_right 512 (list_end (fields_of a).cluster_bits) n alike.enough
+
+pub alike_fields : {n : ℕ} (a b : List ℕ) → BeginAlike n a b → fields_of a ≡ fields_of b
+unfolding fields_of
+alike_fields a b alike =
+    let sector = alike_sector a b alike in
+    let at_0 = alike_32 a b 0 alike (omega arith) in
+    let at_4 = alike_32 a b 4 alike (omega arith) in
+    let at_8 = alike_64 a b 8 alike (omega arith) in
+    let at_16 = alike_32 a b 16 alike (omega arith) in
+    let at_20 = alike_32 a b 20 alike (omega arith) in
+    let at_24 = alike_64 a b 24 alike (omega arith) in
+    let at_32 = alike_32 a b 32 alike (omega arith) in
+    let at_36 = alike_32 a b 36 alike (omega arith) in
+    let at_40 = alike_64 a b 40 alike (omega arith) in
+    let at_48 = alike_64 a b 48 alike (omega arith) in
+    let at_56 = alike_32 a b 56 alike (omega arith) in
+    let at_60 = alike_32 a b 60 alike (omega arith) in
+    let at_64 = alike_64 a b 64 alike (omega arith) in
+    let at_72 = alike_64 a b 72 alike (omega arith) in
+    let at_80 = alike_64 a b 80 alike (omega arith) in
+    let at_88 = alike_64 a b 88 alike (omega arith) in
+    let at_96 = alike_32 a b 96 alike (omega arith) in
+    let at_100 = alike_32 a b 100 alike (omega arith) in
+    let at_104 = alike_byte a b 104 alike (omega arith) in
+    cc
+
+alike_short : (m n : ℕ) → (m < 104 → n < 104) → (n < 104 → m < 104) → nat_lt m 104 ≡ nat_lt n 104
+alike_short m n on back = grind (arith, nat_tests)
+
+-- the rules of its numbers see of a file's length whether it is below 104
+rules_short : (part : Part) (m n : ℕ) (f : Fields) → nat_lt m 104 ≡ nat_lt n 104 → number_fault part m f ≡ number_fault part n f
+rules_short part m n f e = cc
+
+pub alike_numbers : {n : ℕ} (part : Part) (a b : List ℕ) → BeginAlike n a b → number_fault part (length a) (fields_of a) ≡ number_fault part (length b) (fields_of b)
+alike_numbers part a b alike =
+    rules_short part (length a) (length b) (fields_of a) (alike_short (length a) (length b) alike.short alike.long)
+    ∙ ap (number_fault part (length b)) (alike_fields a b alike)
+
+-- ---- the list
+
+alike_extension : {n : ℕ} (a b : List ℕ) (end from : ℕ) (e : Extension) → BeginAlike n a b → end ≤ n → IsExtension a end from e → IsExtension b end from e
+alike_extension a b end from e alike small is = record {
+  inside = is.inside;
+  kind = is.kind ∙ alike_32 a b from alike (omega (arith, is.inside));
+  some = is.some;
+  place = is.place;
+  length = is.length ∙ alike_32 a b (from + 4) alike (omega (arith, is.inside));
+  whole = is.whole;
+}
+
+alike_end : {n : ℕ} (a b : List ℕ) (end from : ℕ) → BeginAlike n a b → end ≤ n → IsEnd a end from → IsEnd b end from
+alike_end a b end from alike small (inl short) = inl short
+alike_end a b end from alike small (inr none) = let i = none.0 in inr (none.0, sym (alike_32 a b from alike (omega arith)) ∙ none.1)
+
+alike_extensions : {n : ℕ} (a b : List ℕ) (end from : ℕ) (es : List Extension) → BeginAlike n a b → end ≤ n → AreExtensions a end from es → AreExtensions b end from es
+alike_extensions a b end from [] alike small are = alike_end a b end from alike small are
+alike_extensions a b end from (e ∷ es) alike small are = (alike_extension a b end from e alike small are.0, alike_extensions a b end (behind e) es alike small are.1)
+
+pub alike_in : {n : ℕ} (a b : List ℕ) (es : List Extension) → BeginAlike n a b → AreIn a es → AreIn b es
+alike_in a b es alike are =
+    subst (λ (f : Fields). AreExtensions b (list_end f.cluster_bits) f.header_length es) (alike_fields a b alike)
+    (alike_extensions a b (list_end (fields_of a).cluster_bits) (fields_of a).header_length es alike (alike_list a b alike) are)
+
+pub alike_back : {n : ℕ} (a b : List ℕ) → BeginAlike n a b → BeginAlike n b a
+alike_back {n} a b alike = record {
+  enough = subst (λ (f : Fields). max 512 (list_end f.cluster_bits) ≤ n) (alike_fields a b alike) alike.enough;
+  bytes = sym alike.bytes;
+  short = alike.long;
+  long = alike.short;
+}
+
+-- ---- what extensions contain
+
+-- an extension's content stands within these bytes
+record IsIn (n : ℕ) (e : Extension) : Type 0 where
+  low : 8 ≤ e.place
+  high : e.place + e.length ≤ n
+
+abbrev IsInIfThere : ℕ → Option Extension → Type 0
+IsInIfThere n None = Unit {0}
+IsInIfThere n (Some e) = IsIn n e
+
+within_if : (n : ℕ) (t : Bool) (e : Extension) (o : Option Extension) → IsIn n e → IsInIfThere n o → IsInIfThere n (if t then Some e else o)
+within_if n true e o is on = is
+within_if n false e o is on = on
+
+within_first : (n : ℕ) (file : List ℕ) (end from kind : ℕ) (es : List Extension) → end ≤ n → AreExtensions file end from es → IsInIfThere n (first_of_kind kind es)
+within_first n file end from kind [] small are = tt
+within_first n file end from kind (e ∷ es) small are =
+    let is : IsExtension file end from e = are.0 in
+    within_if n (e.kind == kind) e (first_of_kind kind es) (record { low = omega (arith, is.place); high = omega (arith, is.whole) }) (within_first n file end (behind e) kind es small are.1)
+
+first_in : {n : ℕ} (a b : List ℕ) (kind : ℕ) (es : List Extension) → BeginAlike n a b → AreIn a es → IsInIfThere n (first_of_kind kind es)
+first_in {n} a b kind es alike are = within_first n a (list_end (fields_of a).cluster_bits) (fields_of a).header_length kind es (alike_list a b alike) are
+
+-- what the rule of bitmaps reads matters only where the extension has its length
+bad_if : (t : Bool) (pad pad' count count' offset offset' bits : ℕ) → (t ≡ true → (pad ≡ pad') × (count ≡ count') × (offset ≡ offset'))
+    → (not t || nat_lt 0 pad || (count == 0) || not (is_place bits offset)) ≡ (not t || nat_lt 0 pad' || (count' == 0) || not (is_place bits offset'))
+bad_if false pad pad' count count' offset offset' bits same = refl
+bad_if true pad pad' count count' offset offset' bits same = let s = same refl in let s0 = s.0 in let s1 = s.1 in let s2 = s.2 in cc
+
+alike_bad : {n : ℕ} (a b : List ℕ) (bits : ℕ) (o : Option Extension) → BeginAlike n a b → IsInIfThere n o → is_bad_bitmaps bits a o ≡ is_bad_bitmaps bits b o
+alike_bad a b bits None alike near = refl
+alike_bad {n} a b bits (Some e) alike near =
+    bad_if (e.length == 24) (u32_at a (e.place + 4)) (u32_at b (e.place + 4)) (u32_at a e.place) (u32_at b e.place) (u64_at a (e.place + 16)) (u64_at b (e.place + 16)) bits
+    (λ t. let n = eqb-true e.length 24 t in let h = near.high in
+    (alike_32 a b (e.place + 4) alike (omega arith), alike_32 a b e.place alike (omega arith), alike_64 a b (e.place + 16) alike (omega arith)))
+
+rules_bad : (part : Part) (a b : List ℕ) (f : Fields) (es : List Extension)
+    → is_bad_bitmaps f.cluster_bits a (first_of_kind bitmaps_kind es) ≡ is_bad_bitmaps f.cluster_bits b (first_of_kind bitmaps_kind es)
+    → first_of (extension_rules part a f es) ≡ first_of (extension_rules part b f es)
+rules_bad part a b f es e = cc
+
+pub alike_rules : {n : ℕ} (part : Part) (a b : List ℕ) (es : List Extension) → BeginAlike n a b → AreIn a es
+    → first_of (extension_rules part a (fields_of a) es) ≡ first_of (extension_rules part b (fields_of b) es)
+alike_rules part a b es alike are =
+    rules_bad part a b (fields_of a) es (alike_bad a b (fields_of a).cluster_bits (first_of_kind bitmaps_kind es) alike (first_in a b bitmaps_kind es alike are))
+    ∙ ap (λ (f : Fields). first_of (extension_rules part b f es)) (alike_fields a b alike)
+
+bad_length : (bits : ℕ) (a : List ℕ) (e : Extension) → is_bad_bitmaps bits a (Some e) ≡ false → e.length ≡ 24
+bad_length bits a e good = grind (arith, nat_tests)
+
+alike_bitmaps : {n : ℕ} (a b : List ℕ) (bits : ℕ) (o : Option Extension) → BeginAlike n a b → IsInIfThere n o → is_bad_bitmaps bits a o ≡ false → bitmaps_in a o ≡ bitmaps_in b o
+alike_bitmaps a b bits None alike near good = refl
+alike_bitmaps a b bits (Some e) alike near good =
+    let n = bad_length bits a e good in
+    let h = near.high in
+    let count = alike_32 a b e.place alike (omega arith) in
+    let size = alike_64 a b (e.place + 8) alike (omega arith) in
+    let offset = alike_64 a b (e.place + 16) alike (omega arith) in
+    cc
+
+own_length : (part : Part) (e : Extension) → is_bad_own part (Some e) ≡ false → (e.length ≡ 40) ⊎ (e.length ≡ 64)
+own_length parts.Source e good = inl (grind (arith, nat_tests))
+own_length parts.Target e good = inr (grind (arith, nat_tests))
+own_length parts.Foreign e good = inl (grind (arith, nat_tests))
+
+-- an extension of these lengths lies whole in those bytes
+own_fits : {n : ℕ} (part : Part) (e : Extension) → IsIn n e → is_bad_own part (Some e) ≡ false → (e.length == 40) ≡ false → e.place + 64 ≤ n
+own_fits {n} part e near good other = own_inside (own_length part e good) near other
+  where
+    own_inside : (e.length ≡ 40) ⊎ (e.length ≡ 64) → IsIn n e → (e.length == 40) ≡ false → e.place + 64 ≤ n
+    own_inside (inl short) near other = let t : (e.length == 40) ≡ true = ap (λ (n : ℕ). n == 40) short in absurd cc
+    own_inside (inr long) near other = let h = near.high in omega arith
+
+own_if : (t : Bool) (a b : List ℕ) (place : ℕ)
+    → (t ≡ true → (reading a place 16 ≡ reading b place 16) × (u64_at a (place + 16) ≡ u64_at b (place + 16)) × (u64_at a (place + 24) ≡ u64_at b (place + 24)) × (u64_at a (place + 32) ≡ u64_at b (place + 32)))
+    → (t ≡ false → reading a place 64 ≡ reading b place 64)
+    → (if t then owns.Source (reading a place 16) (u64_at a (place + 16)) (u64_at a (place + 24)) (u64_at a (place + 32)) else owns.Target (reading a place 64))
+    ≡ (if t then owns.Source (reading b place 16) (u64_at b (place + 16)) (u64_at b (place + 24)) (u64_at b (place + 32)) else owns.Target (reading b place 64))
+own_if true a b place short long = let s = short refl in let s0 = s.0 in let s1 = s.1 in let s2 = s.2 in let s3 = s.3 in cc
+own_if false a b place short long = ap owns.Target (long refl)
+
+alike_own : {n : ℕ} (part : Part) (a b : List ℕ) (o : Option Extension) → BeginAlike n a b → IsInIfThere n o → is_bad_own part o ≡ false → own_in a o ≡ own_in b o
+alike_own part a b None alike near good = refl
+alike_own part a b (Some e) alike near good =
+    own_if (e.length == 40) a b e.place
+    (λ t. let n = eqb-true e.length 40 t in let h = near.high in
+    (alike_reading a b e.place 16 alike (omega arith), alike_64 a b (e.place + 16) alike (omega arith), alike_64 a b (e.place + 24) alike (omega arith), alike_64 a b (e.place + 32) alike (omega arith)))
+    (λ t. alike_reading a b e.place 64 alike (own_fits part e near good t))
+
+kept_if : (t : Bool) (a b c d : List ℕ) → a ≡ b → c ≡ d → (if t then a ++ c else c) ≡ (if t then b ++ d else d)
+kept_if t a b c d first rest = cc
+
+-- the list stands on whole numbers of eight bytes, so that the padding too ends before the list's end
+alike_kept : {n : ℕ} (a b : List ℕ) (end from : ℕ) (es : List Extension) → BeginAlike n a b → end ≤ n → end % 8 ≡ 0 → from % 8 ≡ 0 → AreExtensions a end from es
+    → kept_bytes a es ≡ kept_bytes b es
+alike_kept a b end from [] alike small whole starts are = refl
+alike_kept a b end from (e ∷ es) alike small whole starts are =
+    let place = are.0.place in
+    let inside = are.0.whole in
+    kept_if (is_kept e) (bytes_of a e) (bytes_of b e) (kept_bytes a es) (kept_bytes b es)
+    (alike_reading a b (e.place - 8) (8 + padded e.length) alike (omega arith))
+    (alike_kept a b end (behind e) es alike small whole (omega arith) are.1)
+
+end_whole : (bits : ℕ) → 9 ≤ bits → list_end bits % 8 ≡ 0
+end_whole bits low =
+    let same : 9 + (bits - 9) ≡ bits = omega arith in
+    let e : 2 ^ bits ≡ 512 * 2 ^ (bits - 9) = ap (λ (n : ℕ). 2 ^ n) (sym same) ∙ pow-add 2 9 (bits - 9) in
+    omega arith
+
+pub in_kept : {n : ℕ} (a b : List ℕ) (length : ℕ) (es : List Extension) → BeginAlike n a b → Passes length (fields_of a) → AreIn a es → kept_bytes a es ≡ kept_bytes b es
+in_kept a b length es alike pass are =
+    alike_kept a b (list_end (fields_of a).cluster_bits) (fields_of a).header_length es alike (alike_list a b alike) (end_whole (fields_of a).cluster_bits pass.bits_low) pass.length_whole are
+
+pub header_from_start : {n : ℕ} (part : Part) (a b : List ℕ) (h : Header) → BeginAlike n a b → IsHeaderOf part a h → IsHeaderOf part b h
+header_from_start part a b h alike is =
+    let s = is.spells in
+    let es = s.extensions in
+    let pass = numbers_pass part (length a) (fields_of a) s.numbers in
+    let rules = all_pass (extension_rules part a (fields_of a) es) s.rules in
+    let sector = alike_sector a b alike in
+    let long : h.header_length ≤ 504 = (let e = s.fields.header_length in let l = pass.length_high in omega arith) in
+    record {
+      spells = record {
+        numbers = sym (alike_numbers part a b alike) ∙ s.numbers;
+        fields = subst (HasFields h) (alike_fields a b alike) s.fields;
+        extensions = es;
+        listed = alike_in a b es alike s.listed;
+        rules = sym (alike_rules part a b es alike s.listed) ∙ s.rules;
+        kept = s.kept
+            ∙ ap (λ (l : List ℕ). l ++ kept_bytes a es) (alike_reading a b 112 (h.header_length - 112) alike (omega arith))
+            ∙ ap (λ (l : List ℕ). tail_of b h.header_length ++ l) (in_kept a b (length a) es alike pass s.listed);
+        bitmaps = s.bitmaps ∙ alike_bitmaps a b (fields_of a).cluster_bits (first_of_kind bitmaps_kind es) alike (first_in a b bitmaps_kind es alike s.listed) rules.1.1.0;
+        own = s.own ∙ alike_own part a b (first_of_kind own_kind es) alike (first_in a b own_kind es alike s.listed) rules.1.1.1.1.0;
+      };
+      own_at = is.own_at;
+    }
+
+pub fault_from_start : {n : ℕ} (part : Part) (a b : List ℕ) (fault : HeaderFault) → BeginAlike n a b → IsFault part a fault → IsFault part b fault
+fault_from_start part a b fault alike (inl x) = inl (sym (alike_numbers part a b alike) ∙ x)
+fault_from_start part a b fault alike (inr (inl x)) =
+    inr (inl (sym (alike_numbers part a b alike) ∙ x.0, x.1, λ es are. x.2 es (alike_in b a es (alike_back a b alike) are)))
+fault_from_start part a b fault alike (inr (inr x)) =
+    inr (inr (sym (alike_numbers part a b alike) ∙ x.0, (x.1.0, alike_in a b x.1.0 alike x.1.1, sym (alike_rules part a b x.1.0 alike x.1.1) ∙ x.1.2)))
+
+-- the rules that the one passes the other passes
+pub passes_from_start : {n : ℕ} (part : Part) (a b : List ℕ) → BeginAlike n a b → disks.Passes part a → disks.Passes part b
+passes_from_start part a b alike is = record {
+  numbers = sym (alike_numbers part a b alike) ∙ is.numbers;
+  extensions = is.extensions;
+  listed = alike_in a b is.extensions alike is.listed;
+  rules = sym (alike_rules part a b is.extensions alike is.listed) ∙ is.rules;
+}
+
+-- ---- as what a file is read
+
+alike_backup : {n : ℕ} (a b : List ℕ) → BeginAlike n a b → IsBackup a → IsBackup b
+alike_backup a b alike is = (is.0, is.1, alike_in a b is.0 alike is.2, is.3, is.4)
+
+pub read_as_from_start : {n : ℕ} (part : Part) (a b : List ℕ) → BeginAlike n a b → IsReadAs a part → IsReadAs b part
+read_as_from_start parts.Target a b alike is = alike_backup a b alike is
+read_as_from_start parts.Source a b alike is = λ backup. is (alike_backup b a (alike_back a b alike) backup)
+read_as_from_start parts.Foreign a b alike is = absurd is
+
+-- ---- the first bytes of a file
+
+taken_reading : (n : ℕ) (file : List ℕ) (at count : ℕ) → at + count ≤ n → reading (take n file) at count ≡ reading file at count
+taken_reading n file at count inside = reading_same (take n file) file at count (λ i low high. get_or-take n file i 0 (omega arith))
+
+-- they say how many the header takes, if they have its cluster bits
+pub start_same : (n : ℕ) (file : List ℕ) → 24 ≤ n → start_length (take n file) ≡ start_length file
+unfolding fields_of
+start_same n file some = ap (λ (bits : ℕ). max 512 (list_end bits)) (u32_as (take n file) file 20 20 (taken_reading n file 20 4 (omega arith)))
+
+taken_short : (n : ℕ) (file : List ℕ) → 512 ≤ n → length file < 104 → length (take n file) < 104
+taken_short n file sector short = omega (arith, length-take n file)
+
+taken_long : (n : ℕ) (file : List ℕ) → 512 ≤ n → length (take n file) < 104 → length file < 104
+taken_long n file sector short = omega (arith, length-take n file)
+
+-- the file begins as these bytes do
+pub begins : (file : List ℕ) → BeginAlike (start_length file) file (start_of file)
+begins file =
+    let sector = most_left 512 (list_end (fields_of file).cluster_bits) (start_length file) (omega arith) in
+    record {
+      enough = omega arith;
+      bytes = sym (taken_reading (start_length file) file 0 (start_length file) (omega arith));
+      short = taken_short (start_length file) file sector;
+      long = taken_long (start_length file) file sector;
+    }

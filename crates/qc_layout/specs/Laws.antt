@@ -1,0 +1,75 @@
+-- The laws, as statements.
+use Rattle.std.specs.Prelude.{◌≡◌, ℕ, ◌<◌, ◌≤◌, max, List, length, take}
+use Rattle.disk_model.specs.Files.{reading}
+use Rattle.qc_layout.specs.declared.extension.Extension.{Extension}
+use Rattle.qc_layout.specs.declared.header.Header.{Header}
+use Rattle.qc_layout.specs.declared.header.HeaderFault.{HeaderFault}
+use Rattle.qc_layout.specs.declared.header.Part.{Part}
+use Rattle.qc_layout.specs.Header.{fields_of}
+use Rattle.qc_layout.specs.Extensions.{AreExtensions, list_end}
+use Rattle.qc_layout.specs.Disks.{IsReadAs, Stands}
+use Rattle.qc_layout.specs.Spelling.{Spells, IsHeaderOf, IsFault}
+
+-- one list of extensions at most stands in a place
+abbrev pub OneListing : Type 0
+OneListing = (file : List ℕ) (end from : ℕ) (es other : List Extension) → AreExtensions file end from es → AreExtensions file end from other → es ≡ other
+
+-- a file is refused for one fault at most
+abbrev pub OneFault : Type 0
+OneFault = (part : Part) (file : List ℕ) (fault other : HeaderFault) → IsFault part file fault → IsFault part file other → fault ≡ other
+
+-- a file that spells a header is not refused
+abbrev pub FaultOrHeader : Type 0
+FaultOrHeader = (part : Part) (file : List ℕ) (h : Header) (fault : HeaderFault) → Spells part file h → IsFault part file fault → ⊥
+
+-- two headers say the same
+pub record SameHeader (h g : Header) : Type 0 where
+  pub backing_file_offset : h.backing_file_offset ≡ g.backing_file_offset
+  pub backing_file_size : h.backing_file_size ≡ g.backing_file_size
+  pub cluster_bits : h.cluster_bits ≡ g.cluster_bits
+  pub size : h.size ≡ g.size
+  pub crypt_method : h.crypt_method ≡ g.crypt_method
+  pub l1_size : h.l1_size ≡ g.l1_size
+  pub l1_table_offset : h.l1_table_offset ≡ g.l1_table_offset
+  pub refcount_table_offset : h.refcount_table_offset ≡ g.refcount_table_offset
+  pub refcount_table_clusters : h.refcount_table_clusters ≡ g.refcount_table_clusters
+  pub nb_snapshots : h.nb_snapshots ≡ g.nb_snapshots
+  pub snapshots_offset : h.snapshots_offset ≡ g.snapshots_offset
+  pub incompatible_features : h.incompatible_features ≡ g.incompatible_features
+  pub compatible_features : h.compatible_features ≡ g.compatible_features
+  pub autoclear_features : h.autoclear_features ≡ g.autoclear_features
+  pub refcount_order : h.refcount_order ≡ g.refcount_order
+  pub header_length : h.header_length ≡ g.header_length
+  pub compression_type : h.compression_type ≡ g.compression_type
+  pub kept : h.kept.items.items ≡ g.kept.items.items
+  pub bitmaps : h.bitmaps ≡ g.bitmaps
+  pub own : h.own ≡ g.own
+  pub own_at : h.own_at ≡ g.own_at
+
+-- a file spells one header at most
+abbrev pub OneHeader : Type 0
+OneHeader = (part : Part) (file : List ℕ) (h g : Header) → IsHeaderOf part file h → IsHeaderOf part file g → SameHeader h g
+
+-- how many of a file's first bytes say what its header says: its first sector, and its first cluster up to 65536 bytes
+abbrev pub start_length : List ℕ → ℕ
+start_length file = max 512 (list_end (fields_of file).cluster_bits)
+
+-- those bytes, or all where it has fewer
+abbrev pub start_of : List ℕ → List ℕ
+start_of file = take (start_length file) file
+
+-- two files begin with the same n bytes, as many as the one's header takes, and both are long enough for a header or neither is
+pub record BeginAlike (n : ℕ) (a b : List ℕ) : Type 0 where
+  pub enough : start_length a ≤ n
+  pub bytes : reading a 0 n ≡ reading b 0 n
+  pub short : length a < 104 → length b < 104
+  pub long : length b < 104 → length a < 104
+
+-- what is read of a file depends on those bytes alone
+abbrev pub FromStart : Type 0
+FromStart = (part : Part) (n : ℕ) (a b : List ℕ) → BeginAlike n a b
+    → ((h : Header) → IsHeaderOf part a h → IsHeaderOf part b h) × ((fault : HeaderFault) → IsFault part a fault → IsFault part b fault) × (IsReadAs a part → IsReadAs b part)
+
+-- a file stands for one disk at most
+abbrev pub OneDisk : Type 0
+OneDisk = (part : Part) (file disk other : List ℕ) → Stands part file disk → Stands part file other → disk ≡ other

@@ -1,0 +1,34 @@
+//! Laws of the definitions. Each function does nothing; its contract is the law.
+
+ghost use Rattle.qc_layout.specs.Laws.{OneListing, OneFault, FaultOrHeader, OneHeader, FromStart, OneDisk};
+
+/// One list of extensions at most stands in a place.
+pub fn one_listing()
+    ensures { OneListing }
+{}
+
+/// A file is refused for one fault at most.
+pub fn one_fault()
+    ensures { OneFault }
+{}
+
+/// A file that spells a header is not refused.
+pub fn fault_or_header()
+    ensures { FaultOrHeader }
+{}
+
+/// A file spells one header at most.
+pub fn one_header()
+    ensures { OneHeader }
+{}
+
+/// What is read of a file depends on its first sector and its first cluster up to 65536 bytes alone, and on whether it has 104
+/// bytes.
+pub fn from_start()
+    ensures { FromStart }
+{}
+
+/// A file stands for one disk at most.
+pub fn one_disk()
+    ensures { OneDisk }
+{}
