@@ -1,0 +1,5 @@
+use Rattle.bits_granular.specs.Granules.{IsFilled}
+use Rattle.bits_granular.proofs.bits.set_flags.Given as goal
+
+abbrev pub invariant-loop-place : goal.invariant-loop-place
+invariant-loop-place l = IsFilled l.initial.flags l.flags l.first l.place

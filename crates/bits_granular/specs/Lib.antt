@@ -1,0 +1,4 @@
+pub mod Granules
+pub mod Runs
+pub mod Bytes
+pub mod Laws

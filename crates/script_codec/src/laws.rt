@@ -1,0 +1,33 @@
+//! Laws of the definitions. Each function does nothing; its contract is the law.
+
+ghost use Rattle.script_codec.specs.Laws.{TextSaysOneLine, ScriptSaysOneThing, BadLineExcludesSaying, OneFirstBadLine, SpellingIsRead, WrittenScriptIsRead};
+
+/// A text says one line at most.
+pub fn text_says_one_line()
+    ensures { TextSaysOneLine }
+{}
+
+/// A script says one list of lines at most.
+pub fn script_says_one_thing()
+    ensures { ScriptSaysOneThing }
+{}
+
+/// A script of which one line has no form says nothing.
+pub fn bad_line_excludes_saying()
+    ensures { BadLineExcludesSaying }
+{}
+
+/// One line at most is the first without a form.
+pub fn one_first_bad_line()
+    ensures { OneFirstBadLine }
+{}
+
+/// Where some text says a line, its one spelling says it too.
+pub fn spelling_is_read()
+    ensures { SpellingIsRead }
+{}
+
+/// A script of spellings says the lines that were written.
+pub fn written_script_is_read()
+    ensures { WrittenScriptIsRead }
+{}
