@@ -56,7 +56,7 @@ runs_needed (Guest request) = runs_of_work request.work
 runs_needed (Monitor command) = 0
 runs_needed Tick = 0
 
--- how many notices any event may bring: two for each of eight jobs and views
+-- room for the notices of any event: twice as many as jobs and views can end in one
 abbrev pub notices_needed : ℕ
 notices_needed = 16
 

@@ -1,7 +1,7 @@
 //! Answers: the reply to an event, and the notices after it.
 //!
-//! An answer is used again for one event after another. The room in it is made before an event, so that carrying the event
-//! out takes no memory.
+//! An answer is used again for one event after another. The room in it is made before an event, so that the core can carry
+//! the event out without memory.
 
 ghost use Rattle.std.specs.Prelude.{◌≡◌, ◌≤◌, ◌↔◌, [], IsTrue, IsOk, IfOk, OnOk, vec_capacity};
 ghost use Rattle.core_events.specs.Answers.{bytes_needed, runs_needed, Fits, HasRoom, IsEmptyAnswer, KeepsContents, KeepsRoom};
@@ -21,7 +21,7 @@ const LONGEST_READ: u64 = 1 << 25;
 /// How many runs a status replies at most.
 const MOST_RUNS: usize = 1024;
 
-/// How many notices an event brings at most: two for each of eight jobs and views.
+/// How many notices an answer has room for: twice as many as jobs and views can end in one event.
 const MOST_NOTICES: usize = 16;
 
 /// Why a request failed, as clients know it.
@@ -31,9 +31,10 @@ pub enum Errno {
     Perm,
     /// A device call failed, or the drive is broken.
     Io,
-    /// There was no memory.
+    /// For want of memory.
     NoMemory,
-    /// The range isn't within the disk or is too long, or there is no such node or context.
+    /// The range isn't within the disk or is too long, a status asks nothing, or there is no such node or no consistent
+    /// bitmap of the context.
     Invalid,
     /// The image has no room for what the write needs.
     NoSpace,

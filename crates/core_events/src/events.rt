@@ -19,7 +19,7 @@ pub enum Work {
     Read,
     /// Puts the request's bytes at the range. With `fua` they are on the disk before the answer.
     Write { fua: bool },
-    /// Makes the range read as zeros. With `no_hole` its clusters stay stored; with `fua` it is on the disk before the answer.
+    /// Makes the range read as zeros. With `no_hole` its clusters are stored, as by a write of zeros; with `fua` it is on the disk before the answer.
     Zero { fua: bool, no_hole: bool },
     /// Each write that was answered is on the disk before the answer.
     Flush,

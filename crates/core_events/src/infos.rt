@@ -35,7 +35,7 @@ pub struct NodeInfo {
     pub name: Name,
     /// The size of the disk, in bytes.
     pub size: u64,
-    /// The bitmaps in the order in which they were added. There are none exactly on views.
+    /// The bitmaps in the order in which they were added. `None` exactly on views.
     pub bitmaps: Option<BitmapInfos>,
     /// The number of the event at which the drive broke.
     pub broken_at: Option<u64>,

@@ -3,7 +3,7 @@
 //! Contracts see each of these types as data without memory, but for the bytes of a request and for an answer, where a
 //! call can ask for room. `specs/Views.antt` turns events and answers into plain values, those of `specs/Events.antt` and
 //! `specs/Answers.antt`. The layers above may rely on the room: what [`Answer::make_room`] makes is what [`Answer::fits`]
-//! tests, and an event is carried out within it.
+//! tests; the core will carry an event out within it.
 #![tactic(auto)]
 
 mod answers;

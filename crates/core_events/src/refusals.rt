@@ -41,7 +41,7 @@ pub enum Refusal {
     TargetBusy(Name),
     /// A device call failed in this event, for this target.
     DeviceFailed(Name),
-    /// There is no file of the target's name.
+    /// There is no file of the target's name, or no file may have it.
     TargetMissing(Name),
     /// The target's file is no target, for this reason.
     TargetFault(Name),
@@ -59,6 +59,6 @@ pub enum Refusal {
     ExportTaken(Name),
     /// There are as many exports as there may be; so many.
     TooManyExports(u64),
-    /// There was no memory.
+    /// For want of memory.
     OutOfMemory,
 }

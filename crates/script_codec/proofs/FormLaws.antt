@@ -5,7 +5,7 @@ use Rattle.hex.specs.Hex.{decode_of}
 use Rattle.core_events.specs.Events as events
 use Rattle.core_events.specs.declared.events.Request.{Request}
 use Rattle.plain_model.specs.Script.{IsNumber}
-use Rattle.script_codec.specs.Lines.{Verb, Write, Read, Zero, Flush, View, Status, verb_word, IsRange, IsContent, IsView, IsStatus, hole_words, Takes, Asks, words_of}
+use Rattle.script_codec.specs.Lines.{Verb, Write, Read, Zero, Flush, View, Status, verb_word, IsRange, IsContent, IsView, IsStatus, nohole_words, Takes, Asks, words_of}
 use Rattle.script_codec.specs.Views.{TakesFound, AsksFound}
 use Rattle.script_codec.proofs.WordLaws.{some_word, lone_word, number_word, hex_word}
 
@@ -37,7 +37,7 @@ pub content_made : (text offset rest : List ℕ) (at : ℕ) (bytes : List ℕ) �
 content_made text offset rest at bytes e h d some = record { offset = offset; hex = rest; words = e ∙ ap (λ (ws : List (List ℕ)). offset ∷ ws) (hex_word rest bytes d); offset_is = h; decodes = d; some = some }
 
 -- a second word that isn't `nohole` ends no range
-pub no_hole_word : (text word rest : List ℕ) → words_of text ≡ word ∷ words_of rest → rest ≢ codes "nohole" → (count : List ℕ) (n : ℕ) (no_hole : Bool) → words_of text ≡ count ∷ hole_words no_hole → IsNumber count n → ⊥
+pub no_hole_word : (text word rest : List ℕ) → words_of text ≡ word ∷ words_of rest → rest ≢ codes "nohole" → (count : List ℕ) (n : ℕ) (no_hole : Bool) → words_of text ≡ count ∷ nohole_words no_hole → IsNumber count n → ⊥
 no_hole_word text word rest e other count n true f h = other (lone_word rest (codes "nohole") (let w : word ∷ words_of rest ≡ count ∷ codes "nohole" ∷ [] = sym e ∙ f in cc))
 no_hole_word text word rest e other count n false f h = some_word rest (let w : word ∷ words_of rest ≡ count ∷ [] = sym e ∙ f in cc)
 

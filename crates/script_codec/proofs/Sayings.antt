@@ -8,7 +8,7 @@ use Rattle.hex.proofs.HexLemmas.{decode_of-same}
 use Rattle.core_events.specs.Events.{Request}
 use Rattle.plain_model.specs.Script.{IsNothing, IsNumber, without_return}
 use Rattle.plain_model.proofs.Words.{one_number}
-use Rattle.script_codec.specs.Lines.{Line, Ask, Qmp, Tick, Stop, Quit, Nothing, Verb, Write, Read, Zero, Flush, View, Status, verb_word, IsRange, IsContent, IsHole, IsView, IsStatus, hole_words, Takes, Asks, asked_to_write, Spells, Say, FirstBadOf, words_of}
+use Rattle.script_codec.specs.Lines.{Line, Ask, Qmp, Tick, Stop, Quit, Nothing, Verb, Write, Read, Zero, Flush, View, Status, verb_word, IsRange, IsContent, IsZeroRange, IsView, IsStatus, nohole_words, Takes, Asks, asked_to_write, Spells, Say, FirstBadOf, words_of}
 use Rattle.script_codec.proofs.FormLaws.{one_verb}
 
 -- ---- requests
@@ -27,18 +27,18 @@ one_content args at bytes at2 bytes2 h k =
     let last : h.hex ≡ k.hex = cc in
     (one_number k.offset at at2 (subst (λ (t : List ℕ). IsNumber t at) first h.offset_is) k.offset_is, decode_of-same k.hex bytes bytes2 (subst (λ (t : List ℕ). decode_of t ≡ Ok bytes) last h.decodes) k.decodes)
 
-one_hole_word : (a b : Bool) → hole_words a ≡ hole_words b → a ≡ b
+one_hole_word : (a b : Bool) → nohole_words a ≡ nohole_words b → a ≡ b
 one_hole_word true true e = refl
 one_hole_word false false e = refl
 one_hole_word true false e = absurd cc
 one_hole_word false true e = absurd cc
 
-one_hole : (args : List (List ℕ)) (at n : ℕ) (a : Bool) (at2 n2 : ℕ) (b : Bool) → IsHole args at n a → IsHole args at2 n2 b → (at ≡ at2) × (n ≡ n2) × (a ≡ b)
+one_hole : (args : List (List ℕ)) (at n : ℕ) (a : Bool) (at2 n2 : ℕ) (b : Bool) → IsZeroRange args at n a → IsZeroRange args at2 n2 b → (at ≡ at2) × (n ≡ n2) × (a ≡ b)
 one_hole args at n a at2 n2 b h k =
-    let w : h.offset ∷ h.count ∷ hole_words a ≡ k.offset ∷ k.count ∷ hole_words b = sym h.words ∙ k.words in
+    let w : h.offset ∷ h.count ∷ nohole_words a ≡ k.offset ∷ k.count ∷ nohole_words b = sym h.words ∙ k.words in
     let first : h.offset ≡ k.offset = cc in
     let last : h.count ≡ k.count = cc in
-    let words : hole_words a ≡ hole_words b = cc in
+    let words : nohole_words a ≡ nohole_words b = cc in
     (one_number k.offset at at2 (subst (λ (t : List ℕ). IsNumber t at) first h.offset_is) k.offset_is, one_number k.count n n2 (subst (λ (t : List ℕ). IsNumber t n) last h.count_is) k.count_is, one_hole_word a b words)
 
 one_view : (args : List (List ℕ)) (a : List ℕ) (at n : ℕ) (b : List ℕ) (at2 n2 : ℕ) → IsView args a at n → IsView args b at2 n2 → (a ≡ b) × (at ≡ at2) × (n ≡ n2)

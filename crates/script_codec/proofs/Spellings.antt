@@ -13,8 +13,8 @@ use Rattle.core_events.specs.Events.{Request}
 use Rattle.core_events.specs.declared.events.Work.TheVariants as work
 use Rattle.plain_model.specs.Script.{IsNumber}
 use Rattle.plain_model.proofs.Words.{number_no_space}
-use Rattle.script_codec.specs.Lines.{Line, Ask, Qmp, Tick, Stop, Quit, Nothing, Verb, Write, Read, Zero, Flush, View, Status, verb_word, hole_words, IsRange, IsContent, IsHole, IsView, IsStatus, Takes, Asks, Spells, words_of, asked, asked_to_write, drive}
-use Rattle.script_codec.specs.Texts.{line_text, range_text, read_head, hole_text, IsSpellable}
+use Rattle.script_codec.specs.Lines.{Line, Ask, Qmp, Tick, Stop, Quit, Nothing, Verb, Write, Read, Zero, Flush, View, Status, verb_word, nohole_words, IsRange, IsContent, IsZeroRange, IsView, IsStatus, Takes, Asks, Spells, words_of, asked, asked_to_write, drive}
+use Rattle.script_codec.specs.Texts.{line_text, range_text, read_head, nohole_text, IsSpellable}
 use Rattle.script_codec.proofs.WordLaws.{first_word, number_word, hex_word}
 
 -- a text of these words is they, joined by blanks
@@ -46,16 +46,16 @@ write_again args at bytes h =
     first_word _ (decimal at) (encode_lower bytes) refl (number_no_space (decimal at) at first) ∙ ap (λ (ws : List (List ℕ)). decimal at ∷ ws) (hex_word (encode_lower bytes) bytes decodes) in
     record { verb = Write; args = words_of (decimal at ++ 32 ∷ encode_lower bytes); are = refl; takes = (at, bytes, record { offset = decimal at; hex = encode_lower bytes; words = words; offset_is = first; decodes = decodes; some = h.some }, refl) }
 
-zero_text : (no_hole : Bool) (offset count : List ℕ) → join_with_byte 32 (codes "zero" ∷ offset ∷ count ∷ hole_words no_hole) ≡ codes "zero " ++ (offset ++ 32 ∷ count) ++ hole_text no_hole
-zero_text true offset count = ap (λ (t : List ℕ). codes "zero " ++ t) (sym (append_assoc offset (32 ∷ count) (hole_text true)))
+zero_text : (no_hole : Bool) (offset count : List ℕ) → join_with_byte 32 (codes "zero" ∷ offset ∷ count ∷ nohole_words no_hole) ≡ codes "zero " ++ (offset ++ 32 ∷ count) ++ nohole_text no_hole
+zero_text true offset count = ap (λ (t : List ℕ). codes "zero " ++ t) (sym (append_assoc offset (32 ∷ count) (nohole_text true)))
 zero_text false offset count = ap (λ (t : List ℕ). codes "zero " ++ t) (sym (append-nil (offset ++ 32 ∷ count)))
 
-pub zero_spelled : (text : List ℕ) (args : List (List ℕ)) (at n : ℕ) (no_hole : Bool) → words_of text ≡ codes "zero" ∷ args → IsHole args at n no_hole → text ≡ codes "zero " ++ range_text at n ++ hole_text no_hole
+pub zero_spelled : (text : List ℕ) (args : List (List ℕ)) (at n : ℕ) (no_hole : Bool) → words_of text ≡ codes "zero" ∷ args → IsZeroRange args at n no_hole → text ≡ codes "zero " ++ range_text at n ++ nohole_text no_hole
 zero_spelled text args at n no_hole e h =
-    let words : words_of text ≡ codes "zero" ∷ decimal at ∷ decimal n ∷ hole_words no_hole = e ∙ rw (h.words, h.offset_is.spelled, h.count_is.spelled) refl in
+    let words : words_of text ≡ codes "zero" ∷ decimal at ∷ decimal n ∷ nohole_words no_hole = e ∙ rw (h.words, h.offset_is.spelled, h.count_is.spelled) refl in
     joined text _ words ∙ zero_text no_hole (decimal at) (decimal n)
 
-zero_again : (text : List ℕ) (args : List (List ℕ)) (at n : ℕ) (no_hole : Bool) → words_of text ≡ codes "zero" ∷ args → IsHole args at n no_hole → Asks (words_of (codes "zero " ++ range_text at n ++ hole_text no_hole)) (asked drive (work.Zero false no_hole) at n)
+zero_again : (text : List ℕ) (args : List (List ℕ)) (at n : ℕ) (no_hole : Bool) → words_of text ≡ codes "zero" ∷ args → IsZeroRange args at n no_hole → Asks (words_of (codes "zero " ++ range_text at n ++ nohole_text no_hole)) (asked drive (work.Zero false no_hole) at n)
 zero_again text args at n no_hole e h = subst (λ (t : List ℕ). Asks (words_of t) (asked drive (work.Zero false no_hole) at n)) (zero_spelled text args at n no_hole e h) (record { verb = Zero; args = args; are = e; takes = (at, n, no_hole, h, refl) })
 
 -- the words of a range are its numbers

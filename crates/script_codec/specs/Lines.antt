@@ -70,16 +70,16 @@ pub record IsContent (args : List (List ℕ)) (at : ℕ) (bytes : List ℕ) : Ty
   pub decodes : decode_of hex ≡ Ok bytes
   pub some : bytes ≢ []
 
--- the words that keep clusters stored
-abbrev pub hole_words : Bool → List (List ℕ)
-hole_words true = codes "nohole" ∷ []
-hole_words false = []
+-- the words by which clusters are stored, as by a write of zeros
+abbrev pub nohole_words : Bool → List (List ℕ)
+nohole_words true = codes "nohole" ∷ []
+nohole_words false = []
 
 -- `OFF LEN` or `OFF LEN nohole`
-pub record IsHole (args : List (List ℕ)) (at n : ℕ) (no_hole : Bool) : Type 0 where
+pub record IsZeroRange (args : List (List ℕ)) (at n : ℕ) (no_hole : Bool) : Type 0 where
   pub offset : List ℕ
   pub count : List ℕ
-  pub words : args ≡ offset ∷ count ∷ hole_words no_hole
+  pub words : args ≡ offset ∷ count ∷ nohole_words no_hole
   pub offset_is : IsNumber offset at
   pub count_is : IsNumber count n
 
@@ -102,7 +102,7 @@ pub record IsStatus (args : List (List ℕ)) (name context : List ℕ) (at n : �
 abbrev pub Takes : Verb → List (List ℕ) → Request → Type 0
 Takes Write args r = (at : ℕ) × (bytes : List ℕ) × IsContent args at bytes × (r ≡ asked_to_write at bytes)
 Takes Read args r = (at : ℕ) × (n : ℕ) × IsRange args at n × (r ≡ asked drive work.Read at n)
-Takes Zero args r = (at : ℕ) × (n : ℕ) × (no_hole : Bool) × IsHole args at n no_hole × (r ≡ asked drive (work.Zero false no_hole) at n)
+Takes Zero args r = (at : ℕ) × (n : ℕ) × (no_hole : Bool) × IsZeroRange args at n no_hole × (r ≡ asked drive (work.Zero false no_hole) at n)
 Takes Flush args r = (args ≡ []) × (r ≡ asked drive work.Flush 0 0)
 Takes View args r = (name : List ℕ) × (at : ℕ) × (n : ℕ) × IsView args name at n × (r ≡ asked name work.Read at n)
 Takes Status args r = (name : List ℕ) × (context : List ℕ) × (at : ℕ) × (n : ℕ) × IsStatus args name context at n × (r ≡ asked name (work.Status context false) at n)

@@ -21,9 +21,9 @@ range_text at n = decimal at ++ 32 ∷ decimal n
 abbrev pub read_head : List ℕ → List ℕ
 read_head name = if bytes_eq name drive then codes "read " else codes "view " ++ name ++ 32 ∷ []
 
-abbrev pub hole_text : Bool → List ℕ
-hole_text true = codes " nohole"
-hole_text false = []
+abbrev pub nohole_text : Bool → List ℕ
+nohole_text true = codes " nohole"
+nohole_text false = []
 
 -- the node, or the export, that is asked
 abbrev pub name_of : Way → List ℕ
@@ -33,7 +33,7 @@ name_of (Export name) = name
 abbrev pub work_text : List ℕ → Work → ℕ → ℕ → List ℕ → List ℕ
 work_text name Read at n bytes = read_head name ++ range_text at n
 work_text name (Write fua) at n bytes = codes "write " ++ decimal at ++ 32 ∷ encode_lower bytes
-work_text name (Zero fua no_hole) at n bytes = codes "zero " ++ range_text at n ++ hole_text no_hole
+work_text name (Zero fua no_hole) at n bytes = codes "zero " ++ range_text at n ++ nohole_text no_hole
 work_text name Flush at n bytes = codes "flush"
 work_text name (Status context one) at n bytes = codes "status " ++ name ++ 32 ∷ context ++ 32 ∷ range_text at n
 

@@ -5,7 +5,7 @@ ghost use Rattle.core_events.specs.Views.{plain_request};
 ghost use Rattle.core_events.specs.declared.events.Work.TheVariants as work;
 ghost use Rattle.hex.specs.Hex.{decode_of};
 ghost use Rattle.plain_model.specs.Script.{IsNumber};
-ghost use Rattle.script_codec.specs.Lines.{IsContent, IsHole, IsView, IsStatus, hole_words, words_of, asked, asked_to_write};
+ghost use Rattle.script_codec.specs.Lines.{IsContent, IsZeroRange, IsView, IsStatus, nohole_words, words_of, asked, asked_to_write};
 ghost use Rattle.script_codec.specs.Lines as spec;
 ghost use Rattle.script_codec.specs.Views.{TakesFound, AsksFound};
 
@@ -53,11 +53,11 @@ fn written(alloc: Global, text: &[u8]) -> Result<Option<(u64, Vec<u8>)>, Memory>
     }
 }
 
-/// The last number, and whether clusters are kept stored.
-fn count_and_hole(text: &[u8]) -> Option<(u64, bool)>
+/// The last number, and whether `nohole` follows.
+fn count_and_nohole(text: &[u8]) -> Option<(u64, bool)>
     ensures { MatchOption result
-        ((count : List ℕ) (n : ℕ) (no_hole : Bool) → words_of text.now ≡ count ∷ hole_words no_hole → IsNumber count n → ⊥)
-        (λ x. (count : List ℕ) × (words_of text.now ≡ count ∷ hole_words x.1) × IsNumber count x.0) }
+        ((count : List ℕ) (n : ℕ) (no_hole : Bool) → words_of text.now ≡ count ∷ nohole_words no_hole → IsNumber count n → ⊥)
+        (λ x. (count : List ℕ) × (words_of text.now ≡ count ∷ nohole_words x.1) × IsNumber count x.0) }
 {
     match cut_word(text) {
         None => match number(text) {
@@ -76,9 +76,9 @@ fn count_and_hole(text: &[u8]) -> Option<(u64, bool)>
     }
 }
 
-/// The range of a zero, and whether its clusters are kept stored.
+/// The range of a zero, and whether `nohole` follows.
 fn hole(text: &[u8]) -> Option<(u64, u64, bool)>
-    ensures { MatchOption result ((at n : ℕ) (no_hole : Bool) → IsHole (words_of text.now) at n no_hole → ⊥) (λ x. IsHole (words_of text.now) x.0 x.1 x.2) }
+    ensures { MatchOption result ((at n : ℕ) (no_hole : Bool) → IsZeroRange (words_of text.now) at n no_hole → ⊥) (λ x. IsZeroRange (words_of text.now) x.0 x.1 x.2) }
 {
     let Some((offset, rest)) = cut_word(text) else {
         return None;
@@ -86,7 +86,7 @@ fn hole(text: &[u8]) -> Option<(u64, u64, bool)>
     let Some(at) = number(offset) else {
         return None;
     };
-    let Some((count, no_hole)) = count_and_hole(rest) else {
+    let Some((count, no_hole)) = count_and_nohole(rest) else {
         return None;
     };
     Some((at, count, no_hole))

@@ -4,7 +4,7 @@ ghost use Rattle.std.specs.Prelude.{◌≡◌, ◌++◌, ◌∷◌, [], IfOk, On
 ghost use Rattle.std.specs.Fmt.{decimal};
 ghost use Rattle.core_events.specs.Views.{plain_request};
 ghost use Rattle.script_codec.specs.Lines.{Ask};
-ghost use Rattle.script_codec.specs.Texts.{hole_text, line_text, name_of, range_text, read_head};
+ghost use Rattle.script_codec.specs.Texts.{nohole_text, line_text, name_of, range_text, read_head};
 ghost use Rattle.script_codec.specs.Views.{plain_line};
 
 use crate::lines::Line;
@@ -45,8 +45,8 @@ fn read_head(alloc: Global, name: &[u8]) -> Result<Vec<u8>, Memory>
 }
 
 /// What stands behind the range of a zero.
-fn hole_word(no_hole: bool) -> &'static [u8]
-    ensures { result.now ≡ hole_text no_hole }
+fn nohole_word(no_hole: bool) -> &'static [u8]
+    ensures { result.now ≡ nohole_text no_hole }
 {
     if no_hole {
         return b" nohole";
@@ -85,7 +85,7 @@ fn request_text(alloc: Global, request: &Request) -> Result<Vec<u8>, Memory>
         Work::Zero { no_hole, .. } => {
             let mut text = Vec::from_slice(alloc, b"zero ")?;
             push_range(&mut text, request.offset, request.length)?;
-            text.extend_from_slice(hole_word(*no_hole))?;
+            text.extend_from_slice(nohole_word(*no_hole))?;
             Ok(text)
         }
         Work::Flush => Vec::from_slice(alloc, b"flush"),
@@ -119,7 +119,7 @@ fn line_text(alloc: Global, line: &Line) -> Result<Vec<u8>, Memory>
     }
 }
 
-/// Appends the line's one spelling and a line feed. Where there is no memory, nothing is appended.
+/// Appends the line's one spelling and a line feed. Of a line that no text says what is appended means nothing. Where there is no memory, nothing is appended.
 pub fn write_line(alloc: Global, line: &Line, out: &mut Bytes) -> Result<(), Memory>
     ensures written { OnOk result (out.new.items.items ≡ out.old.items.items ++ line_text (plain_line line.now) ++ 10 ∷ []) }
     ensures kept { OnErr result (out.new.items.items ≡ out.old.items.items) }
