@@ -1,9 +1,10 @@
 #!/usr/bin/env bash
-# Builds the program and replays the example script on a copy of the example image.
+# Builds the program, makes a disk, tells what it is, and replays the example script on it.
 set -eu
 top=$(cd "$(dirname "$0")/.." && pwd)
 work=$(mktemp -d)
 trap 'rm -rf "$work"' EXIT
-cp "$top/crates/qback/data/s" "$top/crates/qback/data/script" "$work"
 cd "$top/crates/qback"
-rt run -- replay "$work/s" "$work/script"
+rt run -- create-source "$work/disk" 16384 12 00112233445566778899aabbccddeeff
+out/qback info "$work/disk"
+out/qback replay "$work/disk" data/script
