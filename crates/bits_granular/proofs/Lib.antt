@@ -1,9 +1,4 @@
-pub mod Sets
-pub mod Places
 pub mod Octets
 pub mod Marking
 pub mod Merging
-pub mod Cuts
-pub mod Covering
 pub mod Spellings
-pub mod Totals

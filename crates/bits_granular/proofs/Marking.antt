@@ -5,9 +5,9 @@ use Rattle.std.proofs.lemmas.Bool.{cases_lt, cases_eq, lt-ltb, le-ltb, or_right}
 use Rattle.std.specs.Prelude.{nat_lt}
 use Rattle.span_algebra.specs.Timelines.{Extent}
 use Rattle.span_algebra.specs.Spans.{granule}
-use Rattle.bits_granular.specs.Granules.{granules_in, is_in, meets, widened, IsFilled, GranuleSet, marked}
-use Rattle.bits_granular.proofs.Sets.{set_of-from, set_of-same}
-use Rattle.bits_granular.proofs.Places.{place_below, ends_before, ends_after, past_end}
+use Rattle.bitmap_model.specs.Granules.{granules_in, is_in, meets, widened, IsFilled, GranuleSet, marked}
+use Rattle.bitmap_model.proofs.Sets.{set_of-from, set_of-same}
+use Rattle.bitmap_model.proofs.Places.{place_below, ends_before, ends_after, past_end}
 
 pub filled_none : (old : List Bool) (first : ℕ) → IsFilled old old first first
 filled_none old first = record { count = refl; inside = λ k low high. absurd (omega arith); before = λ k h. refl; after = λ k h. refl }

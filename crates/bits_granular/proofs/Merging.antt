@@ -2,8 +2,8 @@
 use Rattle.std.proofs.Common.{◌≡◌, ℕ, zero, suc, ◌+◌, Bool, true, false, ◌&&◌, ◌||◌, List, length, refl, sym, ap, ◌∙◌, arith}
 use Rattle.std.specs.List.{list_any, range_with_len}
 use Rattle.span_algebra.specs.Spans.{granule}
-use Rattle.bits_granular.specs.Granules.{set_of, is_in, meets, widened, united, GranuleSet, marked, merged}
-use Rattle.bits_granular.proofs.Sets.{set_of-from, set_of-same, is_in-set_of, length-set_of}
+use Rattle.bitmap_model.specs.Granules.{set_of, is_in, meets, widened, united, GranuleSet, marked, merged}
+use Rattle.bitmap_model.proofs.Sets.{set_of-from, set_of-same, is_in-set_of, length-set_of}
 use Rattle.bits_granular.proofs.Marking.{or_none}
 
 -- granule k, of size g, meets one of the first n granules, of size h, of the other set

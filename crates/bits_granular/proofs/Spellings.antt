@@ -8,9 +8,9 @@ use Rattle.std.proofs.lemmas.List.{get_or_past}
 use Rattle.std.proofs.lemmas.Grind.{same_number_lists}
 use Rattle.std.proofs.lemmas.List.Elements.{All-get_or}
 use Rattle.bits_granular.proofs.Octets.{bit_of-at}
-use Rattle.bits_granular.specs.Granules.{set_of, is_in}
+use Rattle.bitmap_model.specs.Granules.{set_of, is_in}
 use Rattle.bits_granular.specs.Bytes.{bit_of, bytes_for, IsSpelling, HasTail}
-use Rattle.bits_granular.proofs.Sets.{set_of-from, is_in-set_of, length-set_of}
+use Rattle.bitmap_model.proofs.Sets.{set_of-from, is_in-set_of, length-set_of}
 
 pub reads_back : (set : List Bool) (bytes : List ℕ) → IsSpelling set bytes → set_of (length set) (bit_of bytes) ≡ set
 reads_back set bytes s = sym (set_of-from (length set) (bit_of bytes) set refl (λ k _. sym (s.bits k)))

@@ -1,7 +1,7 @@
 -- A set of granules as bytes: bit n stands in byte n / 8 at the value 2^(n % 8).
 use Rattle.std.specs.Prelude.{◌≡◌, ℕ, ◌/◌, ◌%◌, ◌≤◌, List, length, Bool, ◌==◌, slice_index, IsTrue}
 use Rattle.std.specs.Int.{bit_at, div_ceil}
-use Rattle.bits_granular.specs.Granules.{GranuleSet, set_of, is_in, granules_in, IsAllowed}
+use Rattle.bitmap_model.specs.Granules.{GranuleSet, set_of, is_in, granules_in, IsAllowed}
 
 -- bit n of the bytes; no bit stands past their end
 abbrev pub bit_of : List ℕ → ℕ → Bool

@@ -1,4 +1,2 @@
-pub mod Granules
-pub mod Runs
 pub mod Bytes
 pub mod Laws

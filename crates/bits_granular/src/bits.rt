@@ -2,25 +2,31 @@
 
 ghost use Rattle.std.specs.Prelude.{◌≡◌, ◌≢◌, ℕ, ◌⊎◌, ◌-◌, length, ◌↔◌, ◌+◌, ◌*◌, ◌^◌, ◌<◌, ◌≤◌, ◌++◌, ◌∷◌, min, vec_len, vec_capacity, false, IsTrue, IfOk, IfErr, OnOk, IfSome, IsNone, IsErrOf};
 ghost use Rattle.span_algebra.specs.Spans.{granule};
-ghost use Rattle.bits_granular.specs.Granules.{is_granularity, granules_in, IsAllowed, is_in, is_clean, count_of, IsNext, HasNoNext, IsFilled, IsShaped, none_of, cleared, marked, merged};
-ghost use Rattle.bits_granular.specs.Runs.{between, first_runs, dirty_runs, count_runs};
+ghost use Rattle.bitmap_model.specs.Granules.{is_granularity, granules_in, IsAllowed, is_in, is_clean, count_of, IsNext, HasNoNext, IsFilled, IsShaped, none_of, cleared, marked, merged};
+ghost use Rattle.bitmap_model.specs.Runs.{between, first_runs, dirty_runs, count_runs};
 ghost use Rattle.bits_granular.specs.Bytes.{bytes_for, AreEnough, HasTail, IsSpelling, spelled};
 
 use crate::spelling::{has_tail, read_bits, write_bits};
 use span_algebra::{Bytes, Run, Runs};
 use std::alloc::{AllocError, Global};
 use std::marker::Model;
+use thiserror::Error;
 
 /// Want of memory.
 pub type Memory = AllocError;
 
 /// Why a set of granules isn't made.
-#[derive(Clone, Copy, Debug, PartialEq, Eq)]
+#[derive(Clone, Copy, Debug, PartialEq, Eq, Error)]
 pub enum BitsRefusal {
+    #[error("the granularity is no power of two from 512 to 2^31")]
     BadGranularity,
+    #[error("there would be more than 2^27 granules")]
     TooFine,
+    #[error("there are fewer bytes than the granules take")]
     BadLength,
+    #[error("a bit past the last granule is set")]
     BadTail,
+    #[error("out of memory")]
     Memory,
 }
 
@@ -36,7 +42,7 @@ pub struct GranularBits {
 }
 
 impl Model for GranularBits {
-    ghost use Rattle.bits_granular.specs.Granules.{GranuleSet, IsShaped};
+    ghost use Rattle.bitmap_model.specs.Granules.{GranuleSet, IsShaped};
 
     ghost Value = { GranuleSet };
 

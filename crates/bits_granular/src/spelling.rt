@@ -1,7 +1,7 @@
 //! Bits in bytes.
 
 ghost use Rattle.std.specs.Prelude.{◌≡◌, ◌≢◌, ◌↔◌, ℕ, ◌*◌, ◌/◌, ◌<◌, ◌≤◌, length, IsTrue, IfOk, SomeIndex, slice_index};
-ghost use Rattle.bits_granular.specs.Granules.{set_of};
+ghost use Rattle.bitmap_model.specs.Granules.{set_of};
 ghost use Rattle.bits_granular.specs.Bytes.{bit_of, HasTail, IsSpelling};
 
 use std::alloc::{AllocError, Global};

@@ -42,7 +42,7 @@ abbrev pub end_in : End → List Entry → Bool
 end_in Now xs = true
 end_in (At q) xs = has_point q xs
 
-after-stands : (l q : Point) (xs : List Entry) → All (λ m. IsTrue (is_after l m)) xs → has_point q xs ≡ true → precedes l q ≡ true
+pub after-stands : (l q : Point) (xs : List Entry) → All (λ m. IsTrue (is_after l m)) xs → has_point q xs ≡ true → precedes l q ≡ true
 after-stands l q [] after there = absurd (both_ways false refl there)
 after-stands l q (Wrote e ∷ xs) after there = after-stands l q xs (All-tail (λ m. IsTrue (is_after l m)) (Wrote e) xs after) (past_write q e xs there)
 after-stands l q (Reached r ∷ xs) after there =

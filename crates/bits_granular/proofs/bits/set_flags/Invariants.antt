@@ -1,4 +1,4 @@
-use Rattle.bits_granular.specs.Granules.{IsFilled}
+use Rattle.bitmap_model.specs.Granules.{IsFilled}
 use Rattle.bits_granular.proofs.bits.set_flags.Given as goal
 
 abbrev pub invariant-loop-place : goal.invariant-loop-place

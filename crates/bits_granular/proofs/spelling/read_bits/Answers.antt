@@ -1,7 +1,7 @@
 use Rattle.std.proofs.Common.{◌≡◌, Bool, List, [], ◌∷◌, ◌++◌, length, length-append, arith, sym, ◌∙◌, ap}
-use Rattle.bits_granular.specs.Granules.{set_of}
+use Rattle.bitmap_model.specs.Granules.{set_of}
 use Rattle.bits_granular.specs.Bytes.{bit_of}
-use Rattle.bits_granular.proofs.Sets.{set_of_none, set_of_more}
+use Rattle.bitmap_model.proofs.Sets.{set_of_none, set_of_more}
 use Rattle.bits_granular.proofs.spelling.read_bits.Goals as goal
 
 pub loop-n-init : goal.loop-n-init

@@ -1,5 +1,5 @@
 use Rattle.std.proofs.Common.{◌≡◌, length}
-use Rattle.bits_granular.specs.Granules.{set_of}
+use Rattle.bitmap_model.specs.Granules.{set_of}
 use Rattle.bits_granular.specs.Bytes.{bit_of}
 use Rattle.bits_granular.proofs.spelling.read_bits.Given as goal
 

@@ -1,6 +1,6 @@
 use Rattle.std.proofs.Common.{◌≡◌, ℕ, ◌&&◌, length}
 use Rattle.std.specs.Prelude.{nat_lt}
-use Rattle.bits_granular.specs.Granules.{is_in}
+use Rattle.bitmap_model.specs.Granules.{is_in}
 use Rattle.bits_granular.specs.Bytes.{bit_of, bytes_for}
 use Rattle.bits_granular.proofs.spelling.write_bits.Given as goal
 

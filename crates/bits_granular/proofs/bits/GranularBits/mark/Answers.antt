@@ -1,7 +1,7 @@
 use Rattle.std.proofs.Common.{Bool, List, ap, ◌∙◌, arith}
 use Rattle.std.proofs.lemmas.List.{with_items_is}
-use Rattle.bits_granular.specs.Granules.{GranuleSet, marked}
-use Rattle.bits_granular.proofs.Places.{granularity-least}
+use Rattle.bitmap_model.specs.Granules.{GranuleSet, marked}
+use Rattle.bitmap_model.proofs.Places.{granularity-least}
 use Rattle.bits_granular.proofs.Marking.{marked_nothing, marked_by}
 use Rattle.bits_granular.proofs.bits.GranularBits.mark.Goals as goal
 

@@ -1,6 +1,6 @@
 use Rattle.std.proofs.Common.{◌≡◌, ℕ, ◌-◌, ◌*◌, min, ap, subst, ◌∙◌, arith}
-use Rattle.bits_granular.specs.Granules.{GranuleSet, IsShaped, marked}
-use Rattle.bits_granular.proofs.Places.{granularity-least}
+use Rattle.bitmap_model.specs.Granules.{GranuleSet, IsShaped, marked}
+use Rattle.bitmap_model.proofs.Places.{granularity-least}
 use Rattle.bits_granular.proofs.Marking.{marked-cut}
 use Rattle.bits_granular.proofs.bits.GranularBits.mark_granule.Goals as goal
 

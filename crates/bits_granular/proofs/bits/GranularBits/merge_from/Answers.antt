@@ -1,7 +1,7 @@
 use Rattle.std.proofs.Common.{arith, ap, sym, ◌∙◌, ℕ, ◌<◌, ◌≡◌, false, length}
 use Rattle.span_algebra.specs.Spans.{granule}
-use Rattle.bits_granular.specs.Granules.{GranuleSet, is_in, marked, merged}
-use Rattle.bits_granular.proofs.Sets.{get_or-any}
+use Rattle.bitmap_model.specs.Granules.{GranuleSet, is_in, marked, merged}
+use Rattle.bitmap_model.proofs.Sets.{get_or-any}
 use Rattle.bits_granular.proofs.Merging.{merged_none, merged_with, merged_without, merged_all, merged_below}
 use Rattle.bits_granular.proofs.bits.GranularBits.merge_from.Goals as goal
 use Rattle.bits_granular.proofs.bits.GranularBits.merge_from.Goals.{then-index, else-index}

@@ -1,5 +1,5 @@
 use Rattle.std.proofs.Common.{◌≡◌, ℕ, ◌<◌, ◌≤◌, true}
-use Rattle.bits_granular.specs.Granules.{is_in}
+use Rattle.bitmap_model.specs.Granules.{is_in}
 use Rattle.bits_granular.proofs.bits.GranularBits.next_clean.Given as goal
 
 abbrev pub invariant-loop-granule : goal.invariant-loop-granule

@@ -1,7 +1,7 @@
 use Rattle.std.proofs.Common.{◌*◌, ◌<◌, true, false, ap, sym, subst, ◌∙◌, arith}
-use Rattle.bits_granular.specs.Granules.{GranuleSet, IsShaped}
-use Rattle.bits_granular.proofs.Places.{granularity-least, begins_after}
-use Rattle.bits_granular.proofs.Cuts.{dirty_first}
+use Rattle.bitmap_model.specs.Granules.{GranuleSet, IsShaped}
+use Rattle.bitmap_model.proofs.Places.{granularity-least, begins_after}
+use Rattle.bitmap_model.proofs.Cuts.{dirty_first}
 use Rattle.bits_granular.proofs.bits.GranularBits.run_at.Goals as goal
 
 pub overflow_sub-result : goal.overflow_sub-result

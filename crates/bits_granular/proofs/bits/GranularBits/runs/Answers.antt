@@ -1,7 +1,7 @@
 use Rattle.std.proofs.Common.{◌≡◌, ◌+◌, ◌-◌, ℕ, ◌++◌, List, length, ap, ◌∙◌, arith}
 use Rattle.span_algebra.specs.declared.lists.Run.{Run}
-use Rattle.bits_granular.specs.Runs.{between, first_runs, dirty_runs}
-use Rattle.bits_granular.proofs.Cuts.{dirty_none, runs_more, runs_done}
+use Rattle.bitmap_model.specs.Runs.{between, first_runs, dirty_runs}
+use Rattle.bitmap_model.proofs.Cuts.{dirty_none, runs_more, runs_done}
 use Rattle.bits_granular.proofs.bits.GranularBits.runs.Goals as goal
 
 pub returns-then-from-end-clause-runs : goal.returns-then-from-end-clause-runs

@@ -1,5 +1,5 @@
 use Rattle.std.proofs.Common.{◌≡◌, ◌+◌, ◌-◌, ◌≤◌, min, ◌++◌, take, length, vec_len, vec_capacity}
-use Rattle.bits_granular.specs.Runs.{between, dirty_runs}
+use Rattle.bitmap_model.specs.Runs.{between, dirty_runs}
 use Rattle.bits_granular.proofs.bits.GranularBits.runs.Given as goal
 
 abbrev pub invariant-loop-number : goal.invariant-loop-number

@@ -1,0 +1,15 @@
+pub mod Sets
+pub mod Places
+pub mod Cuts
+pub mod Covering
+pub mod Writes
+pub mod Covers
+pub mod Shapes
+pub mod TrueSpans
+pub mod Recorded
+pub mod Stored
+pub mod Copies
+pub mod Lists
+pub mod Faults
+pub mod Effects
+pub mod Totals
