@@ -1,13 +1,14 @@
 -- What the words of a line ask.
-use Rattle.std.proofs.Common.{◌≡◌, ◌≢◌, ℕ, Bool, true, false, List, [], ◌∷◌, get_or, Result, Ok, Err, Option, Some, None, refl, sym, ap, subst, ◌∙◌, if◌then◌else◌}
-use Rattle.std.specs.Prelude.{codes, ◌==◌, IfOk}
+use Rattle.std.proofs.Common.{◌≡◌, ◌≢◌, ℕ, Bool, true, false, List, [], ◌∷◌, Result, Ok, Err, Option, Some, None, refl, sym, ap, subst, ◌∙◌}
+use Rattle.std.specs.Prelude.{codes, IfOk}
 use Rattle.hex.specs.Hex.{decode_of}
 use Rattle.core_events.specs.Events as events
 use Rattle.core_events.specs.declared.events.Request.{Request}
-use Rattle.plain_model.specs.Script.{IsNumber}
-use Rattle.script_codec.specs.Lines.{Verb, Write, Read, Zero, Flush, View, Status, verb_word, IsRange, IsContent, IsView, IsStatus, nohole_words, Takes, Asks, words_of}
+use Rattle.script_model.specs.Words.{IsNumber}
+use Rattle.script_model.specs.Lines.{Verb, Write, Read, Zero, Flush, View, Status, verb_word, IsRange, IsContent, IsView, IsStatus, nohole_words, Takes, Asks, words_of}
 use Rattle.script_codec.specs.Views.{TakesFound, AsksFound}
-use Rattle.script_codec.proofs.WordLaws.{some_word, lone_word, number_word, hex_word}
+use Rattle.script_model.proofs.Sayings.{one_verb}
+use Rattle.script_model.proofs.WordLaws.{some_word, lone_word, number_word, hex_word}
 
 -- ---- the words behind a verb
 
@@ -52,23 +53,6 @@ pub status_view : (text name rest : List ℕ) (other context : List ℕ) (at n :
 status_view text name rest other context at n e h =
     let w : other ∷ context ∷ h.rest ≡ name ∷ words_of rest = sym h.words ∙ e in
     record { rest = h.rest; words = (cc); some = h.some_context; range = h.range }
-
--- ---- verbs
-
--- the verb that begins with this letter
-abbrev by_letter : ℕ → Verb
-by_letter b = if b == 119 then Write else if b == 114 then Read else if b == 122 then Zero else if b == 102 then Flush else if b == 118 then View else Status
-
-letter : (v : Verb) → by_letter (get_or (verb_word v) 0 0) ≡ v
-letter Write = refl
-letter Read = refl
-letter Zero = refl
-letter Flush = refl
-letter View = refl
-letter Status = refl
-
-pub one_verb : (v w : Verb) → verb_word v ≡ verb_word w → v ≡ w
-one_verb v w e = sym (letter v) ∙ ap (λ (t : List ℕ). by_letter (get_or t 0 0)) e ∙ letter w
 
 -- what is asked with a verb is what the words behind it make
 pub only_takes : (word : List ℕ) (args : List (List ℕ)) (v : Verb) (r : events.Request) → word ≡ verb_word v → Asks (word ∷ args) r → Takes v args r

@@ -2,12 +2,12 @@
 use Rattle.std.proofs.Common.{◌≡◌, ℕ, zero, suc, ◌+◌, true, List, [], ◌∷◌, ◌++◌, Option, Some, None, sym, ap, subst, ◌∙◌, arith, append_assoc}
 use Rattle.std.specs.Prelude.{codes, ◌≢◌}
 use Rattle.std.specs.Option.{is_some}
-use Rattle.plain_model.specs.Script.{without_return, IsNothing}
+use Rattle.script_model.specs.Words.{without_return}
+use Rattle.script_model.specs.Lines.{IsNothing, Line, Ask, Qmp, Tick, Stop, Quit, Nothing, Asks, Spells, Say, FirstBadOf, HasNoForm, words_of}
 use Rattle.core_events.specs.Events as events
-use Rattle.script_codec.specs.Lines.{Line, Ask, Qmp, Tick, Stop, Quit, Nothing, Asks, Spells, Say, FirstBadOf, HasNoForm, words_of}
 use Rattle.script_codec.specs.declared.lines.Line as declared
 use Rattle.script_codec.specs.Views.{plain_line, LineFound}
-use Rattle.script_codec.proofs.WordLaws.{some_word, same_text}
+use Rattle.script_model.proofs.WordLaws.{some_word, same_text}
 
 -- ---- one line
 

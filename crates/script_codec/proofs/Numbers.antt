@@ -8,9 +8,8 @@ use Rattle.std.specs.Result.{MatchResult, result_ok}
 use Rattle.std.specs.Option.{MatchOption}
 use Rattle.std.proofs.lemmas.Str.Parse.{parse_plain}
 use Rattle.std.proofs.lemmas.Fmt.{digits_value-decimal, decimal_nonempty, first_decimal, decimal_digit, decimal-digits_value}
-use Rattle.plain_model.specs.Script.{IsNumber}
-use Rattle.plain_model.proofs.Words.{read_on, numerals, number_digits}
-use Rattle.script_codec.specs.Parts.{IsPlain}
+use Rattle.script_model.specs.Words.{IsNumber, IsPlain}
+use Rattle.script_model.proofs.Numbers.{read_on, numerals, number_digits}
 
 -- zero is the only number that begins with the digit 0
 first_of_decimal : (n : ℕ) → n < 2 ^ 64 → get_or (decimal n) 0 0 ≡ 48 → length (decimal n) ≡ 1

@@ -1,5 +1,1 @@
-pub mod Lines
 pub mod Views
-pub mod Parts
-pub mod Texts
-pub mod Laws

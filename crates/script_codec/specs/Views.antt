@@ -3,7 +3,7 @@ use Rattle.std.specs.Prelude.{ℕ, ◌∷◌, List, MatchOption, Option}
 use Rattle.core_events.specs.Events as events
 use Rattle.core_events.specs.Views.{plain_request}
 use Rattle.core_events.specs.declared.events.Request.{Request}
-use Rattle.script_codec.specs.Lines.{Line, Ask, Qmp, Tick, Stop, Quit, Nothing, Verb, Takes, Asks, Spells, HasNoForm, words_of}
+use Rattle.script_model.specs.Lines.{Line, Ask, Qmp, Tick, Stop, Quit, Nothing, Verb, Takes, Asks, Spells, HasNoForm, words_of}
 use Rattle.script_codec.specs.declared.lines.Line as declared
 use Rattle.script_codec.specs.declared.lines.Line.TheVariants as lines
 

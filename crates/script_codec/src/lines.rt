@@ -2,6 +2,8 @@
 
 use core_events::Request;
 use span_algebra::Bytes;
+use std::marker::Model;
+use thiserror::Error;
 
 /// What a line of a script says.
 #[derive(Debug, Drop)]
@@ -26,11 +28,22 @@ pub struct Lines {
     pub items: Vec<Line>,
 }
 
+impl Model for Lines {
+    ghost use Rattle.std.specs.Prelude.{List};
+    ghost use Rattle.script_codec.specs.declared.lines.Line.{Line};
+
+    ghost Value = { List Line };
+
+    ghost view = { λ a. a.items.items };
+}
+
 /// Why a script is refused.
-#[derive(Clone, Copy, Debug, PartialEq, Eq)]
+#[derive(Clone, Copy, Debug, PartialEq, Eq, Error)]
 pub enum ScriptRefusal {
     /// The line of this number, from 1, has no form, and each before it has one.
+    #[error("line {0} has no form")]
     BadLine(u64),
     /// There was no memory.
+    #[error("out of memory")]
     Memory,
 }

@@ -1,9 +1,9 @@
 //! Reads a script, line by line.
 
 ghost use Rattle.std.specs.Prelude.{◌≡◌, ◌≢◌, ◌<◌, ◌∷◌, [], ℕ, List, length, map, IfOk, MatchOption, Err, MatchResult, IsTrue, ◌↔◌};
-ghost use Rattle.plain_model.specs.Script.{IsNothing, lines_of, without_return};
-ghost use Rattle.script_codec.specs.Lines as spec;
-ghost use Rattle.script_codec.specs.Lines.{IsScript, FirstBad, words_of};
+ghost use Rattle.script_model.specs.Words.{lines_of, without_return};
+ghost use Rattle.script_model.specs.Lines.{IsNothing, IsScript, FirstBad, words_of};
+ghost use Rattle.script_model.specs.Lines as spec;
 ghost use Rattle.script_codec.specs.Views.{LineFound, plain_line};
 ghost use Rattle.script_codec.specs.declared.lines.ScriptRefusal.TheVariants.{BadLine, Memory};
 
@@ -115,7 +115,7 @@ pub fn first_bad_line(alloc: Global, text: &[u8]) -> Result<Option<u64>, Memory>
 
 /// The lines that the script says.
 pub fn read_script(alloc: Global, bytes: &[u8]) -> Result<Lines, ScriptRefusal>
-    ensures read { IfOk result (λ lines. IsScript bytes.now (map plain_line lines.items.items)) }
+    ensures read { IfOk result (λ lines. IsScript bytes.now (map plain_line lines)) }
     ensures bad { (n : ℕ) → result ≡ Err (BadLine n) → FirstBad bytes.now n }
 {
     let mut items = Vec::new(alloc);

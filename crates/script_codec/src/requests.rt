@@ -4,9 +4,9 @@ ghost use Rattle.std.specs.Prelude.{◌≡◌, ◌≢◌, ◌∷◌, [], ℕ, Li
 ghost use Rattle.core_events.specs.Views.{plain_request};
 ghost use Rattle.core_events.specs.declared.events.Work.TheVariants as work;
 ghost use Rattle.hex.specs.Hex.{decode_of};
-ghost use Rattle.plain_model.specs.Script.{IsNumber};
-ghost use Rattle.script_codec.specs.Lines.{IsContent, IsZeroRange, IsView, IsStatus, nohole_words, words_of, asked, asked_to_write};
-ghost use Rattle.script_codec.specs.Lines as spec;
+ghost use Rattle.script_model.specs.Words.{IsNumber};
+ghost use Rattle.script_model.specs.Lines.{IsContent, IsZeroRange, IsView, IsStatus, nohole_words, words_of, asked, asked_to_write};
+ghost use Rattle.script_model.specs.Lines as spec;
 ghost use Rattle.script_codec.specs.Views.{TakesFound, AsksFound};
 
 use crate::words::{cut_word, number, range};

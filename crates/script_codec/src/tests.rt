@@ -1,7 +1,10 @@
 //! Which texts have a form, and how each line is spelled.
 
-use crate::{Line, ScriptRefusal, first_bad_line, first_line, read_line, read_script, write_line};
-use core_events::{Memory, Way, Work};
+use crate::{
+    Line, Lines, ScriptRefusal, first_bad_line, first_line, number, read_line, read_script,
+    write_line,
+};
+use core_events::{Memory, Request, Way, Work};
 use span_algebra::Bytes;
 use std::alloc::Global;
 
@@ -41,6 +44,9 @@ fn each_form_has_one_spelling(rt: HostRuntime) {
         ("status drive0 c 0 4", "status drive0 c 0 4\n"),
         ("qmp  {\"a\": 1} ", "qmp  {\"a\": 1} \n"),
         ("qmp ", "qmp \n"),
+        ("qmp a\r", "qmp a\r\r\n"),
+        ("qmp \r\r", "qmp \r\r\r\n"),
+        ("qmp \ra", "qmp \ra\n"),
         ("tick", "tick\n"),
         ("stop", "stop\n"),
         ("quit", "quit\n"),
@@ -156,4 +162,138 @@ fn a_script_is_read_to_its_first_bad_line(rt: HostRuntime) {
     let parts = first_line(b"tick\r\nquit");
     assert_eq!(rt; parts.0, b"tick".as_slice());
     assert_eq!(rt; parts.1, b"quit".as_slice());
+}
+
+// The bytes as text.
+fn text(bytes: &[u8]) -> &str {
+    match std::str::from_utf8(bytes) {
+        Ok(text) => text,
+        Err(_) => "no text",
+    }
+}
+
+// All that a request holds.
+fn shown_request(alloc: Global, request: &Request) -> Result<String, Memory> {
+    let node = match &request.way {
+        Way::Node(name) => text(&name.items),
+        Way::Export(_) => "an export",
+    };
+    let work = match &request.work {
+        Work::Read => format!(in alloc; "read")?,
+        Work::Write { fua } => format!(in alloc; "write, fua {fua}")?,
+        Work::Zero { fua, no_hole } => { format!(in alloc; "zero, fua {fua}, no_hole {no_hole}")? }
+        Work::Flush => format!(in alloc; "flush")?,
+        Work::Status { context, one } => {
+            format!(in alloc; "status of {}, one {one}", text(&context.items))?
+        }
+    };
+    let bytes = request.bytes.items.as_slice();
+    format!(in alloc;
+        "{node}: {work}, at {} {}: {bytes:?}",
+        request.offset, request.length
+    )
+}
+
+// All that a line holds.
+fn shown(alloc: Global, line: &Line) -> Result<String, Memory> {
+    match line {
+        Line::Ask(request) => shown_request(alloc, request),
+        Line::Qmp(json) => format!(in alloc; "qmp: {:?}", json.items.as_slice()),
+        Line::Tick => format!(in alloc; "tick"),
+        Line::Stop => format!(in alloc; "stop"),
+        Line::Quit => format!(in alloc; "quit"),
+        Line::Nothing => format!(in alloc; "nothing"),
+    }
+}
+
+// All that the lines hold, each with a line feed.
+fn all_shown(alloc: Global, lines: &Lines) -> Result<String, Memory> {
+    let mut out = String::new(alloc);
+    for line in &lines.items {
+        let held = shown(alloc, line)?;
+        out.push_str(&held)?;
+        out.push('\n')?;
+    }
+    Ok(out)
+}
+
+// The lines as they are written.
+fn written(alloc: Global, lines: &Lines) -> Result<Vec<u8>, Memory> {
+    let mut out = Bytes {
+        items: Vec::new(alloc),
+    };
+    for line in &lines.items {
+        write_line(alloc, line, &mut out)?;
+    }
+    Ok(out.items)
+}
+
+const SCRIPT: &str = "# a run\r
+write 512 0AfF
+read 7 9\r
+view snap 3 4
+view drive0 18446744073709551615 0
+zero 0 4096
+zero 1 2 nohole\r
+flush
+status n dirty-bitmap:a 5 6
+qmp {\"a\": 1} \r\r
+
+tick
+stop\r
+quit";
+
+const HELD: &str = "nothing
+drive0: write, fua false, at 512 2: [10, 255]
+drive0: read, at 7 9: []
+snap: read, at 3 4: []
+drive0: read, at 18446744073709551615 0: []
+drive0: zero, fua false, no_hole false, at 0 4096: []
+drive0: zero, fua false, no_hole true, at 1 2: []
+drive0: flush, at 0 0: []
+n: status of dirty-bitmap:a, one false, at 5 6: []
+qmp: [123, 34, 97, 34, 58, 32, 49, 125, 32, 13]
+nothing
+tick
+stop
+quit
+";
+
+const WRITTEN: &str = "
+write 512 0aff
+read 7 9
+view snap 3 4
+read 18446744073709551615 0
+zero 0 4096
+zero 1 2 nohole
+flush
+status n dirty-bitmap:a 5 6
+qmp {\"a\": 1} \r\r
+
+tick
+stop
+quit
+";
+
+#[test]
+fn a_script_is_read_line_by_line_and_written_back(rt: HostRuntime) {
+    let lines = read_script(rt.alloc(), SCRIPT.as_bytes()).expect(&rt, "a script");
+    let held = all_shown(rt.alloc(), &lines).expect(&rt, "memory");
+    assert_eq!(rt; held.as_str(), HELD);
+    let text = written(rt.alloc(), &lines).expect(&rt, "memory");
+    assert_eq!(rt; text.as_slice(), WRITTEN.as_bytes());
+    let again = read_script(rt.alloc(), &text).expect(&rt, "a script");
+    let held = all_shown(rt.alloc(), &again).expect(&rt, "memory");
+    assert_eq!(rt; held.as_str(), HELD);
+    let text = written(rt.alloc(), &again).expect(&rt, "memory");
+    assert_eq!(rt; text.as_slice(), WRITTEN.as_bytes());
+}
+
+#[test]
+fn a_number_is_below_two_to_the_64th(rt: HostRuntime) {
+    assert_eq!(rt; number(b"0"), Some(0));
+    assert_eq!(rt; number(b"18446744073709551615"), Some(u64::MAX));
+    assert_eq!(rt; number(b"18446744073709551616"), None);
+    assert_eq!(rt; number(b"01"), None);
+    assert_eq!(rt; number(b""), None);
 }

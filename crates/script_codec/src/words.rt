@@ -3,10 +3,8 @@
 ghost use Rattle.std.specs.Prelude.{◌≡◌, ◌↔◌, IsTrue, ◌++◌, ◌∷◌, [], ℕ, List, IfSome, IfNone, MatchOption};
 ghost use Rattle.std.specs.List.{list_all};
 ghost use Rattle.std.specs.Char.{is_ascii_digit};
-ghost use Rattle.plain_model.specs.Script.{IsNumber};
-ghost use Rattle.plain_model.specs.Text.{Lacks};
-ghost use Rattle.script_codec.specs.Lines.{IsRange, words_of};
-ghost use Rattle.script_codec.specs.Parts.{IsPlain};
+ghost use Rattle.script_model.specs.Words.{IsNumber, Lacks, IsPlain};
+ghost use Rattle.script_model.specs.Lines.{IsRange, words_of};
 
 /// What stands before the first of such bytes, and after it.
 pub fn cut(text: &[u8], byte: u8) -> Option<(&[u8], &[u8])>
@@ -48,7 +46,8 @@ fn is_plain(text: &[u8]) -> bool
     is_all_digits(text)
 }
 
-/// The number that the text spells.
+/// The number that the text spells, and none where it spells none: decimal digits alone, without a sign or a leading zero,
+/// of a number below 2^64.
 pub fn number(text: &[u8]) -> Option<u64>
     ensures { MatchOption result ((n : ℕ) → IsNumber text.now n → ⊥) (λ n. IsNumber text.now n) }
 {

@@ -3,8 +3,8 @@
 ghost use Rattle.std.specs.Prelude.{◌≡◌, ◌++◌, ◌∷◌, [], IfOk, OnOk, OnErr};
 ghost use Rattle.std.specs.Fmt.{decimal};
 ghost use Rattle.core_events.specs.Views.{plain_request};
-ghost use Rattle.script_codec.specs.Lines.{Ask};
-ghost use Rattle.script_codec.specs.Texts.{nohole_text, line_text, name_of, range_text, read_head};
+ghost use Rattle.script_model.specs.Lines.{Ask};
+ghost use Rattle.script_model.specs.Texts.{nohole_text, line_text, written_line, name_of, range_text, read_head};
 ghost use Rattle.script_codec.specs.Views.{plain_line};
 
 use crate::lines::Line;
@@ -119,12 +119,16 @@ fn line_text(alloc: Global, line: &Line) -> Result<Vec<u8>, Memory>
     }
 }
 
-/// Appends the line's one spelling and a line feed. Of a line that no text says what is appended means nothing. Where there is no memory, nothing is appended.
+/// Appends the line as it is written: its one spelling, a carriage return where that ends in one, and a line feed. Of a line
+/// that no text says what is appended means nothing. Where there is no memory, nothing is appended.
 pub fn write_line(alloc: Global, line: &Line, out: &mut Bytes) -> Result<(), Memory>
-    ensures written { OnOk result (out.new.items.items ≡ out.old.items.items ++ line_text (plain_line line.now) ++ 10 ∷ []) }
+    ensures written { OnOk result (out.new.items.items ≡ out.old.items.items ++ written_line (plain_line line.now)) }
     ensures kept { OnErr result (out.new.items.items ≡ out.old.items.items) }
 {
     let mut text = line_text(alloc, line)?;
+    if text.last() == Some(&b'\r') {
+        text.push(b'\r')?;
+    }
     text.push(b'\n')?;
     out.items.extend_from_slice(&text)
 }

@@ -1,6 +1,6 @@
 use Rattle.std.proofs.Common.{length, ◌∙◌, ap, arith}
-use Rattle.plain_model.specs.Script.{lines_of}
-use Rattle.script_codec.proofs.WordLaws.{line_at_front, last_line}
+use Rattle.script_model.specs.Words.{lines_of}
+use Rattle.script_model.proofs.WordLaws.{line_at_front, last_line}
 use Rattle.script_codec.proofs.reading.cut_line.Goals as goal
 
 pub returns-in-Some-clause-lines : goal.returns-in-Some-clause-lines

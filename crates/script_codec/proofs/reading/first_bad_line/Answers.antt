@@ -1,8 +1,8 @@
 use Rattle.std.proofs.Common.{◌≡◌, [], not, sym, ap, ◌∙◌, arith}
 use Rattle.std.proofs.lemmas.List.{nil_from_length}
 use Rattle.std.proofs.lemmas.Bool.{eqb-true}
-use Rattle.plain_model.specs.Script.{lines_of}
-use Rattle.script_codec.specs.Lines.{Say}
+use Rattle.script_model.specs.Words.{lines_of}
+use Rattle.script_model.specs.Lines.{Say}
 use Rattle.script_codec.proofs.GoingOn.{Follows, goes_on, bad_on, form_found}
 use Rattle.script_codec.proofs.reading.first_bad_line.Goals as goal
 

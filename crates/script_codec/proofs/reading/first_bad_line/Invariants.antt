@@ -1,5 +1,5 @@
 use Rattle.std.proofs.Common.{◌+◌, ◌≤◌, length}
-use Rattle.plain_model.specs.Script.{lines_of}
+use Rattle.script_model.specs.Words.{lines_of}
 use Rattle.script_codec.proofs.GoingOn.{GoesOn, BadOn}
 use Rattle.script_codec.proofs.reading.first_bad_line.Given as goal
 

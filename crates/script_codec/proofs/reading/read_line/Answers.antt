@@ -1,6 +1,6 @@
 use Rattle.std.proofs.Common.{◌≡◌, ◌≢◌, rules}
 use Rattle.std.specs.Prelude.{codes}
-use Rattle.plain_model.specs.Script.{IsNothing}
+use Rattle.script_model.specs.Lines.{IsNothing}
 use Rattle.script_codec.proofs.GoingOn.{qmp_said, none_said}
 use Rattle.script_codec.proofs.reading.read_line.Goals as goal
 

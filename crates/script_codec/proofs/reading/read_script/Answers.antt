@@ -2,8 +2,8 @@ use Rattle.std.proofs.Common.{◌≡◌, List, [], ◌∷◌, ◌++◌, sym, ap,
 use Rattle.std.specs.Prelude.{map}
 use Rattle.std.proofs.lemmas.List.{nil_from_length, append-nil, map-append}
 use Rattle.std.proofs.lemmas.Bool.{eqb-true}
-use Rattle.plain_model.specs.Script.{lines_of}
-use Rattle.script_codec.specs.Lines.{Line, Say, Spells}
+use Rattle.script_model.specs.Words.{lines_of}
+use Rattle.script_model.specs.Lines.{Line, Say, Spells}
 use Rattle.script_codec.specs.Views.{plain_line}
 use Rattle.script_codec.proofs.GoingOn.{Follows, ReadOn, read_on, bad_on}
 use Rattle.script_codec.proofs.reading.read_script.Goals as goal

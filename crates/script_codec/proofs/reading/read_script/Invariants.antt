@@ -1,6 +1,6 @@
 use Rattle.std.proofs.Common.{◌+◌, ◌≤◌, length}
 use Rattle.std.specs.Prelude.{map}
-use Rattle.plain_model.specs.Script.{lines_of}
+use Rattle.script_model.specs.Words.{lines_of}
 use Rattle.script_codec.specs.Views.{plain_line}
 use Rattle.script_codec.proofs.GoingOn.{ReadOn, BadOn}
 use Rattle.script_codec.proofs.reading.read_script.Given as goal

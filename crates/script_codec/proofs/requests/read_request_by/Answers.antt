@@ -1,6 +1,6 @@
 use Rattle.std.proofs.Common.{◌≢◌, rules}
 use Rattle.std.specs.Prelude.{codes}
-use Rattle.script_codec.specs.Lines.{Write, Read, Zero, View, Status}
+use Rattle.script_model.specs.Lines.{Write, Read, Zero, View, Status}
 use Rattle.script_codec.proofs.FormLaws.{asked_by, no_verb}
 use Rattle.script_codec.proofs.requests.read_request_by.Goals as goal
 

@@ -1,4 +1,4 @@
-use Rattle.script_codec.proofs.WordLaws.{word_cut}
+use Rattle.script_model.proofs.WordLaws.{word_cut}
 use Rattle.script_codec.proofs.words.cut_word.Goals as goal
 
 pub returns : goal.returns

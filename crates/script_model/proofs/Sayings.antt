@@ -6,10 +6,26 @@ use Rattle.std.proofs.lemmas.List.{append_cancel_left}
 use Rattle.hex.specs.Hex.{decode_of}
 use Rattle.hex.proofs.HexLemmas.{decode_of-same}
 use Rattle.core_events.specs.Events.{Request}
-use Rattle.plain_model.specs.Script.{IsNothing, IsNumber, without_return}
-use Rattle.plain_model.proofs.Words.{one_number}
-use Rattle.script_codec.specs.Lines.{Line, Ask, Qmp, Tick, Stop, Quit, Nothing, Verb, Write, Read, Zero, Flush, View, Status, verb_word, IsRange, IsContent, IsZeroRange, IsView, IsStatus, nohole_words, Takes, Asks, asked_to_write, Spells, Say, FirstBadOf, words_of}
-use Rattle.script_codec.proofs.FormLaws.{one_verb}
+use Rattle.script_model.specs.Words.{IsNumber, without_return}
+use Rattle.script_model.specs.Lines.{IsNothing, Line, Ask, Qmp, Tick, Stop, Quit, Nothing, Verb, Write, Read, Zero, Flush, View, Status, verb_word, IsRange, IsContent, IsZeroRange, IsView, IsStatus, nohole_words, Takes, Asks, asked_to_write, Spells, Say, FirstBadOf, words_of}
+use Rattle.script_model.proofs.Numbers.{one_number}
+
+-- ---- verbs
+
+-- the verb that begins with this letter
+abbrev by_letter : ℕ → Verb
+by_letter b = if b == 119 then Write else if b == 114 then Read else if b == 122 then Zero else if b == 102 then Flush else if b == 118 then View else Status
+
+letter : (v : Verb) → by_letter (get_or (verb_word v) 0 0) ≡ v
+letter Write = refl
+letter Read = refl
+letter Zero = refl
+letter Flush = refl
+letter View = refl
+letter Status = refl
+
+pub one_verb : (v w : Verb) → verb_word v ≡ verb_word w → v ≡ w
+one_verb v w e = sym (letter v) ∙ ap (λ (t : List ℕ). by_letter (get_or t 0 0)) e ∙ letter w
 
 -- ---- requests
 

@@ -4,12 +4,11 @@ use Rattle.std.specs.Prelude.{◌==◌, IfSome, IfNone, MatchOption}
 use Rattle.std.specs.List.{join_with_byte}
 use Rattle.std.proofs.lemmas.List.Splits.{slice_split_none, slice_split_at, join_with_byte-slice_split, length-slice_split}
 use Rattle.std.proofs.lemmas.Bool.{ne_eqb}
-use Rattle.plain_model.specs.Script.{IsNumber, lines_of}
-use Rattle.plain_model.specs.Text.{Lacks}
+use Rattle.script_model.specs.Words.{IsNumber, lines_of, Lacks}
 use Rattle.hex.specs.Hex.{decode_of, is_hex_digit}
 use Rattle.hex.proofs.HexLemmas.{decode_of-ok}
-use Rattle.plain_model.proofs.Words.{number_no_space}
-use Rattle.script_codec.specs.Lines.{words_of}
+use Rattle.script_model.proofs.Numbers.{number_no_space}
+use Rattle.script_model.specs.Lines.{words_of}
 
 -- a text that lacks the byte passes no test for it
 all_other : (byte : ℕ) (text : List ℕ) → Lacks byte text → (k d : ℕ) → k < length text → (get_or text k d == byte) ≡ false
@@ -62,9 +61,13 @@ last_line (c ∷ d ∷ a) some h = rw (ne_eqb c 10 (h 0 (omega arith)), last_lin
 
 -- ---- digits
 
+-- digits that decode lack each byte that is no digit
+pub hex_lacks : (byte : ℕ) (text bytes : List ℕ) → is_hex_digit byte ≡ false → decode_of text ≡ Ok bytes → Lacks byte text
+hex_lacks byte text bytes other d i h e = absurd (
+    let digit : is_hex_digit (get_or text i 0) ≡ true = (decode_of-ok text bytes d).1 i 0 h in
+    let none : is_hex_digit (get_or text i 0) ≡ false = ap is_hex_digit e ∙ other in
+    cc)
+
 -- digits that decode are one word
 pub hex_word : (text bytes : List ℕ) → decode_of text ≡ Ok bytes → words_of text ≡ text ∷ []
-hex_word text bytes d = one_word text (λ i h e. absurd (
-    let digit : is_hex_digit (get_or text i 0) ≡ true = (decode_of-ok text bytes d).1 i 0 h in
-    let blank : is_hex_digit (get_or text i 0) ≡ false = ap is_hex_digit e in
-    cc))
+hex_word text bytes d = one_word text (hex_lacks 32 text bytes refl d)

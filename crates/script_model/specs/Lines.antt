@@ -2,7 +2,7 @@
 use Rattle.std.specs.Prelude.{◌≡◌, ◌≢◌, ℕ, zero, suc, ◌==◌, Bool, true, false, List, [], ◌∷◌, ◌++◌, length, Ok, codes}
 use Rattle.std.specs.List.{slice_split}
 use Rattle.hex.specs.Hex.{decode_of}
-use Rattle.plain_model.specs.Script.{lines_of, without_return, IsNumber, IsNothing}
+use Rattle.script_model.specs.Words.{lines_of, without_return, IsNumber}
 use Rattle.core_events.specs.Events.{Request}
 use Rattle.core_events.specs.declared.events.Work.{Work}
 use Rattle.core_events.specs.declared.events.Work.TheVariants as work
@@ -115,6 +115,11 @@ pub record Asks (words : List (List ℕ)) (r : Request) : Type 0 where
   pub takes : Takes verb args r
 
 -- ---- lines
+
+-- an empty line, or one that begins with `#`
+abbrev pub IsNothing : List ℕ → Type 0
+IsNothing [] = Unit {0}
+IsNothing (b ∷ bytes) = b ≡ 35
 
 -- a line's text says this
 abbrev pub Spells : List ℕ → Line → Type 0

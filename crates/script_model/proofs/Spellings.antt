@@ -11,18 +11,18 @@ use Rattle.hex.specs.Hex.{decode_of, encode_lower}
 use Rattle.hex.proofs.HexLemmas.{decode_of-ok, decode_of-encode_lower}
 use Rattle.core_events.specs.Events.{Request}
 use Rattle.core_events.specs.declared.events.Work.TheVariants as work
-use Rattle.plain_model.specs.Script.{IsNumber}
-use Rattle.plain_model.proofs.Words.{number_no_space}
-use Rattle.script_codec.specs.Lines.{Line, Ask, Qmp, Tick, Stop, Quit, Nothing, Verb, Write, Read, Zero, Flush, View, Status, verb_word, nohole_words, IsRange, IsContent, IsZeroRange, IsView, IsStatus, Takes, Asks, Spells, words_of, asked, asked_to_write, drive}
-use Rattle.script_codec.specs.Texts.{line_text, range_text, read_head, nohole_text, IsSpellable}
-use Rattle.script_codec.proofs.WordLaws.{first_word, number_word, hex_word}
+use Rattle.script_model.specs.Words.{IsNumber}
+use Rattle.script_model.proofs.Numbers.{number_no_space}
+use Rattle.script_model.specs.Lines.{Line, Ask, Qmp, Tick, Stop, Quit, Nothing, Verb, Write, Read, Zero, Flush, View, Status, verb_word, nohole_words, IsRange, IsContent, IsZeroRange, IsView, IsStatus, Takes, Asks, Spells, words_of, asked, asked_to_write, drive}
+use Rattle.script_model.specs.Texts.{line_text, range_text, read_head, nohole_text, IsSpellable}
+use Rattle.script_model.proofs.WordLaws.{first_word, number_word, hex_word}
 
 -- a text of these words is they, joined by blanks
 joined : (text : List ℕ) (words : List (List ℕ)) → words_of text ≡ words → text ≡ join_with_byte 32 words
 joined text words e = sym (join_with_byte-slice_split 32 text) ∙ ap (join_with_byte 32) e
 
 -- a number spells itself
-number_spelled : (text : List ℕ) (n : ℕ) → IsNumber text n → IsNumber (decimal n) n
+pub number_spelled : (text : List ℕ) (n : ℕ) → IsNumber text n → IsNumber (decimal n) n
 number_spelled text n h = record { fits = h.fits; spelled = refl }
 
 -- numbers that are spelled spell a range
@@ -32,13 +32,13 @@ range_spelled args at n h =
     let last = number_spelled h.count n h.count_is in
     first_word (range_text at n) (decimal at) (decimal n) refl (number_no_space (decimal at) at first) ∙ ap (λ (ws : List (List ℕ)). decimal at ∷ ws) (number_word (decimal n) n last)
 
-range_again : (args : List (List ℕ)) (at n : ℕ) → IsRange args at n → IsRange (words_of (range_text at n)) at n
+pub range_again : (args : List (List ℕ)) (at n : ℕ) → IsRange args at n → IsRange (words_of (range_text at n)) at n
 range_again args at n h = record { offset = decimal at; count = decimal n; words = range_spelled args at n h; offset_is = number_spelled h.offset at h.offset_is; count_is = number_spelled h.count n h.count_is }
 
 read_again : (args : List (List ℕ)) (at n : ℕ) → IsRange args at n → Asks (words_of (codes "read " ++ range_text at n)) (asked drive work.Read at n)
 read_again args at n h = record { verb = Read; args = words_of (range_text at n); are = refl; takes = (at, n, range_again args at n h, refl) }
 
-write_again : (args : List (List ℕ)) (at : ℕ) (bytes : List ℕ) → IsContent args at bytes → Asks (words_of (codes "write " ++ decimal at ++ 32 ∷ encode_lower bytes)) (asked_to_write at bytes)
+pub write_again : (args : List (List ℕ)) (at : ℕ) (bytes : List ℕ) → IsContent args at bytes → Asks (words_of (codes "write " ++ decimal at ++ 32 ∷ encode_lower bytes)) (asked_to_write at bytes)
 write_again args at bytes h =
     let first = number_spelled h.offset at h.offset_is in
     let decodes : decode_of (encode_lower bytes) ≡ Ok bytes = decode_of-encode_lower bytes (decode_of-ok h.hex bytes h.decodes).3 in

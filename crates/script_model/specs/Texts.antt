@@ -1,13 +1,13 @@
 -- The one spelling of a line, in which lines are written.
-use Rattle.std.specs.Prelude.{◌≢◌, ℕ, ◌-◌, length, slice_index, Bool, true, false, List, [], ◌∷◌, ◌++◌, if◌then◌else◌, codes, bytes_eq}
+use Rattle.std.specs.Prelude.{ℕ, ◌-◌, length, ◌==◌, slice_index, Bool, true, false, List, [], ◌∷◌, ◌++◌, if◌then◌else◌, codes, bytes_eq}
 use Rattle.std.specs.Fmt.{decimal}
 use Rattle.hex.specs.Hex.{encode_lower}
 use Rattle.core_events.specs.declared.events.Way.{Way}
 use Rattle.core_events.specs.declared.events.Way.TheVariants.{Node, Export}
 use Rattle.core_events.specs.declared.events.Work.{Work}
 use Rattle.core_events.specs.declared.events.Work.TheVariants.{Read, Write, Zero, Flush, Status}
-use Rattle.plain_model.specs.Text.{Lacks}
-use Rattle.script_codec.specs.Lines.{Line, Ask, Qmp, Tick, Stop, Quit, Nothing, Spells, drive}
+use Rattle.script_model.specs.Words.{Lacks}
+use Rattle.script_model.specs.Lines.{Line, Ask, Qmp, Tick, Stop, Quit, Nothing, Spells, drive}
 
 -- some text says this line
 abbrev pub IsSpellable : Line → Type 0
@@ -46,20 +46,23 @@ line_text Stop = codes "stop"
 line_text Quit = codes "quit"
 line_text Nothing = []
 
--- a text without a line feed, and without a carriage return at its end
-pub record IsWhole (text : List ℕ) : Type 0 where
-  pub feeds : Lacks 10 text
-  pub ends : slice_index text (length text - 1) ≢ 13
+-- what ends a line: a line feed, and before it a carriage return where the spelling ends in one, since one is dropped there
+abbrev pub line_end : List ℕ → List ℕ
+line_end text = if slice_index text (length text - 1) == 13 then 13 ∷ 10 ∷ [] else 10 ∷ []
 
--- such a text says this line
+-- the line as it is written
+abbrev pub written_line : Line → List ℕ
+written_line l = line_text l ++ line_end (line_text l)
+
+-- a text without a line feed says this line
 abbrev pub IsWritable : Line → Type 0
-IsWritable l = (text : List ℕ) × IsWhole text × Spells text l
+IsWritable l = (text : List ℕ) × Lacks 10 text × Spells text l
 
 abbrev pub AreWritable : List Line → Type 0
 AreWritable [] = Unit {0}
 AreWritable (l ∷ ls) = IsWritable l × AreWritable ls
 
--- the spellings of these lines, each with its line feed
+-- these lines as they are written
 abbrev pub script_text : List Line → List ℕ
 script_text [] = []
-script_text (l ∷ ls) = line_text l ++ 10 ∷ script_text ls
+script_text (l ∷ ls) = written_line l ++ script_text ls

@@ -1,6 +1,6 @@
 //! Laws of the definitions. Each function does nothing; its contract is the law.
 
-ghost use Rattle.script_codec.specs.Laws.{TextSaysOneLine, ScriptSaysOneThing, BadLineExcludesSaying, OneFirstBadLine, SpellingIsRead, WrittenScriptIsRead};
+ghost use Rattle.script_model.specs.Laws.{TextSaysOneLine, ScriptSaysOneThing, BadLineExcludesSaying, OneFirstBadLine, SpellingIsRead, WrittenScriptIsRead, ReadLinesAreWritable, RecordedLinesAreWritable, AskedLineIsRecorded};
 
 /// A text says one line at most.
 pub fn text_says_one_line()
@@ -27,7 +27,22 @@ pub fn spelling_is_read()
     ensures { SpellingIsRead }
 {}
 
-/// A script of spellings says the lines that were written.
+/// Lines that are written are read as the lines that they are.
 pub fn written_script_is_read()
     ensures { WrittenScriptIsRead }
+{}
+
+/// Lines that were read can be written.
+pub fn read_lines_are_writable()
+    ensures { ReadLinesAreWritable }
+{}
+
+/// The lines that say a request can be written.
+pub fn recorded_lines_are_writable()
+    ensures { RecordedLinesAreWritable }
+{}
+
+/// A request that a line of a script asks is said by that line.
+pub fn asked_line_is_recorded()
+    ensures { AskedLineIsRecorded }
 {}
