@@ -1,0 +1,6 @@
+//! What a client and the program say to each other over NBD, as definitions: the whole messages of a connection, what each
+//! asks, and the bytes of each answer (fixed newstyle, structured replies, the contexts `base:allocation` and
+//! `qemu:dirty-bitmap:NAME`).
+//!
+//! It runs nothing.
+#![tactic(auto)]
