@@ -1,10 +1,14 @@
 -- What happened to a disk: the bytes that it was opened with, and since then writes, and points that name moments.
-use Rattle.std.specs.Prelude.{ℕ, ◌+◌, ◌≤◌, List, [], ◌∷◌, length}
+use Rattle.std.specs.Prelude.{ℕ, List, [], ◌∷◌, ◌++◌, length, map, if◌then◌else◌}
 use Rattle.disk_model.specs.Files.{overlay}
+use Rattle.span_algebra.specs.declared.points.Point.{Point}
+use Rattle.span_algebra.specs.Points.{same_point}
+use Rattle.span_algebra.specs.Timelines.{Timeline, LieInside, IsRising}
+use Rattle.span_algebra.specs.Timelines as timelines
 
 pub data Entry : Type 0 where
-  Write : (at : ℕ) (bytes : List ℕ) → Entry
-  Point : (epoch serial : ℕ) → Entry
+  Wrote : (at : ℕ) (bytes : List ℕ) → Entry
+  Reached : (point : Point) → Entry
 
 pub record History : Type 0 where
   pub start : List ℕ
@@ -13,19 +17,40 @@ pub record History : Type 0 where
 -- the disk after these entries
 abbrev pub disk_after : List ℕ → List Entry → List ℕ
 disk_after disk [] = disk
-disk_after disk (Write at bytes ∷ entries) = disk_after (overlay disk at bytes) entries
-disk_after disk (Point epoch serial ∷ entries) = disk_after disk entries
+disk_after disk (Wrote at bytes ∷ entries) = disk_after (overlay disk at bytes) entries
+disk_after disk (Reached p ∷ entries) = disk_after disk entries
 
 -- the disk now
 abbrev pub now : History → List ℕ
 now h = disk_after h.start h.entries
 
--- each write lies in a disk of this size
-abbrev pub LieInside : ℕ → List Entry → Type 0
-LieInside size [] = Unit {0}
-LieInside size (Write at bytes ∷ entries) = (at + length bytes ≤ size) × LieInside size entries
-LieInside size (Point epoch serial ∷ entries) = LieInside size entries
+-- the entries before a point; all where it doesn't stand
+abbrev pub entries_before : Point → List Entry → List Entry
+entries_before p [] = []
+entries_before p (Wrote at bytes ∷ entries) = Wrote at bytes ∷ entries_before p entries
+entries_before p (Reached q ∷ entries) = if same_point p q then [] else Reached q ∷ entries_before p entries
+
+-- the disk at a point
+abbrev pub disk_at : History → Point → List ℕ
+disk_at h p = disk_after h.start (entries_before p h.entries)
+
+-- the history goes on
+abbrev pub with_entry : History → Entry → History
+with_entry h entry = record { start = h.start; entries = h.entries ++ entry ∷ [] }
+
+-- the same without the bytes that were written
+abbrev pub without_bytes : Entry → timelines.Entry
+without_bytes (Wrote at bytes) = timelines.Wrote (record { at = at; size = length bytes })
+without_bytes (Reached p) = timelines.Reached p
+
+abbrev pub timeline_of : History → Timeline
+timeline_of h = record { start = length h.start; entries = map without_bytes h.entries }
 
 -- each write of the history lies in its disk
 abbrev pub StaysInside : History → Type 0
-StaysInside h = LieInside (length h.start) h.entries
+StaysInside h = LieInside (length h.start) (timeline_of h).entries
+
+-- each write lies in the disk, and the points rise
+pub record IsHistory (h : History) : Type 0 where
+  pub inside : StaysInside h
+  pub rising : IsRising (timeline_of h)

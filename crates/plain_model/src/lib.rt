@@ -1,8 +1,7 @@
-//! The plain machine, as definitions with their laws: what happened to a disk, what a script says, and what a run of it
-//! prints and leaves.
+//! The plain machine, as definitions with their laws: what happened to a disk, and what each event answers and changes.
 //!
 //! It runs nothing. The layers above are judged against these definitions, which name none of their types or loops. Each
-//! law stands as the contract of a function of [`laws`], so that the gate proves it.
+//! law stands as the contract of a function, so that the gate proves it.
 #![tactic(auto)]
 
 pub mod laws;
