@@ -52,6 +52,11 @@ printf 'write 4095 aabb\nread 4094 4\nquit\n' >script
 says 0 'ok\ndata 00aabb00\nok\n' replay s script
 printf 'read 4094 4\nquit\n' >script
 says 0 'data 00aabb00\nok\n' replay s script
+printf 'zero 4095 1\nflush\nqmp {}\nstop\nread 4094 4\n' >stops
+says 0 'ok\nok\n{"error":{"class":"CommandNotFound","desc":"Unbuilt"}}\nstopped\n' replay s stops
+says 0 'data 0000bb00\nok\n' replay s script
+printf 'write 4095 aa\n' >again
+says 0 'ok\nok\n' replay s again
 printf 'write 0 11\nwrite 0 abc\n' >bad
 says 5 'line 2\n' replay s bad
 says 0 'data 00aabb00\nok\n' replay s script

@@ -35,9 +35,9 @@ fn scripts_are_answered(rt: HostRuntime) -> Result<(), Fail> {
             0,
             b"error EINVAL\ndata 00\nok\n",
         ),
-        (b"read 0 1\nflush\n", 5, b"line 2\n"),
+        (b"read 0 1\nflush 0\n", 5, b"line 2\n"),
         (
-            b"write 4095 aabb\nflush\nread 4094 4\nquit\n",
+            b"write 4095 aabb\nsync\nread 4094 4\nquit\n",
             5,
             b"line 2\n",
         ),
@@ -55,6 +55,45 @@ fn scripts_are_answered(rt: HostRuntime) -> Result<(), Fail> {
             0,
             b"error EINVAL\nerror EINVAL\nok\n",
         ),
+    ];
+    let empty = image(alloc)?;
+    for (script, status, printed) in cases {
+        let run = run_words(alloc, host(alloc, &empty, script, &[])?, &WORDS)?;
+        assert_eq!(rt; run.status, status);
+        assert_eq!(rt; run.host.printed(), printed);
+    }
+    Ok(())
+}
+
+/// Lines of each form, one after another.
+const EACH: &[u8] =
+    b"write 0 0102030405\nzero 1 3\r\nread 0 5\nzero 16383 2\nzero 4094 4 nohole\nzero 0 0\n\
+flush\r\ntick\r\n# a comment\n\nview v 0 1\nview drive0 0 1\nview drive0 16384 1\n\
+status drive0 base:allocation 0 512\nqmp {}\r\nqmp \nquit\n";
+
+const EACH_ANSWER: &[u8] = b"ok\nok\ndata 0100000005\nerror EINVAL\nok\nok\n\
+ok\nok\nerror EINVAL\ndata 01\nerror EINVAL\n\
+error EINVAL\n{\"error\":{\"class\":\"CommandNotFound\",\"desc\":\"Unbuilt\"}}\n\
+{\"error\":{\"class\":\"CommandNotFound\",\"desc\":\"Unbuilt\"}}\nok\n";
+
+#[test]
+fn each_form_is_answered(rt: HostRuntime) -> Result<(), Fail> {
+    let alloc = rt.alloc();
+    let empty = image(alloc)?;
+    let run = run_words(alloc, host(alloc, &empty, EACH, &[])?, &WORDS)?;
+    assert_eq!(rt; run.host.printed(), EACH_ANSWER);
+    assert_eq!(rt; run.status, 0);
+    Ok(())
+}
+
+#[test]
+fn a_stop_ends_the_run(rt: HostRuntime) -> Result<(), Fail> {
+    let alloc = rt.alloc();
+    let cases: [(&[u8], u8, &[u8]); 4] = [
+        (b"stop\n", 0, b"stopped\n"),
+        (b"write 0 11\nstop\r\nread 0 1\n", 0, b"ok\nstopped\n"),
+        (b"stop\nread 0\n", 5, b"line 2\n"),
+        (b"quit\nstop\n", 0, b"ok\n"),
     ];
     let empty = image(alloc)?;
     for (script, status, printed) in cases {
@@ -124,13 +163,15 @@ fn images_of_another_form_are_refused(rt: HostRuntime) -> Result<(), Fail> {
 fn each_failed_call_ends_the_run(rt: HostRuntime) -> Result<(), Fail> {
     let alloc = rt.alloc();
     let empty = image(alloc)?;
-    let whole = run_words(alloc, host(alloc, &empty, ROUND, &[])?, &WORDS)?;
-    assert_eq!(rt; whole.status, 0);
-    for call in 1..whole.host.calls().saturating_add(1) {
-        let run = run_words(alloc, host(alloc, &empty, ROUND, &[call])?, &WORDS)?;
-        assert_eq!(rt; run.status, 3);
-        assert!(rt; run.host.printed().ends_with(b"device\n"));
-        assert_eq!(rt; run.host.file("t"), Some(ROUND));
+    for script in [ROUND, b"zero 0 1\nflush\nqmp {}\nstop\n".as_slice()] {
+        let whole = run_words(alloc, host(alloc, &empty, script, &[])?, &WORDS)?;
+        assert_eq!(rt; whole.status, 0);
+        for call in 1..whole.host.calls().saturating_add(1) {
+            let run = run_words(alloc, host(alloc, &empty, script, &[call])?, &WORDS)?;
+            assert_eq!(rt; run.status, 3);
+            assert!(rt; run.host.printed().ends_with(b"device\n"));
+            assert_eq!(rt; run.host.file("t"), Some(script));
+        }
     }
     Ok(())
 }

@@ -1,5 +1,5 @@
 -- A run that came to its end as was due, and was reported, ends as is due.
-use Rattle.std.proofs.Common.{◌≡◌, inl, inr, ⊎_elim, ℕ, List, IsTrue, sym, subst}
+use Rattle.std.proofs.Common.{◌≡◌, inl, inr, ⊎_elim, ℕ, List, map, IsTrue, sym, subst}
 use Rattle.disk_model.specs.World.{World, Runs, IsNameless, only_text}
 use Rattle.disk_model.proofs.Laws.{Within, given_on, run_both, run_more, run_on, stay}
 use Rattle.qback_top.specs.declared.end.End.{End}
@@ -9,6 +9,7 @@ use Rattle.qback_top.specs.declared.stop.Stop.TheVariants as stops
 use Rattle.qback_top.specs.declared.words.Task.{Task}
 use Rattle.qback_top.specs.declared.words.Task.TheVariants.{CreateSource, CreateTarget, Info, Replay}
 use Rattle.qback_top.specs.Endings.{NoForm, Missing, Exists, Refused, BadLine, Made, Told, Ran, looks, looks_and_says, works_on_name, creates, MakesAlone, Says, line_of, LooksAndTells}
+use Rattle.qback_top.specs.Orders.{order_of}
 use Rattle.qback_top.specs.Replays.{Replayed}
 use Rattle.qback_top.specs.Creations.{Makes, Created}
 use Rattle.qback_top.specs.Ends.{Stopped, EndsAsDue, Touches}
@@ -27,7 +28,7 @@ module _ (words : List (List ℕ)) (old mid new : World) (status : ℕ) where
   stopped_due stops.Memory stopped needs reports is = inr (inr (is, record { before = mid; stopped = stopped; cause = tt; said = reports }))
 
   replay_due : (end : End) → ShowsReplay words old mid end → NeedsRise old mid end → Reports mid new end → status ≡ status_at end → EndsAsDue words old new status
-  replay_due ends.Done shows needs reports is = inl (Ran shows.0 shows.1, inl shows.2, is, subst (λ (w : World). Replayed shows.0 shows.1 old w) (sym reports) shows.3)
+  replay_due ends.Done shows needs reports is = inl (Ran shows.0 shows.1, inl shows.2, is, subst (λ (w : World). Replayed shows.0 (map order_of shows.1) old w) (sym reports) shows.3)
   replay_due (ends.Missing name) shows needs reports is = inl (Missing name.now, inl shows.0, is, record { before = mid; looked = shows.1; said = reports })
   replay_due (ends.Refused name reason) shows needs reports is = inl (Refused name.now reason.now, inl shows.0, is, record { before = mid; looked = shows.1; said = reports })
   replay_due (ends.BadLine n) shows needs reports is = inl (BadLine n, inl shows.0, is, record { before = mid; looked = shows.1; said = reports })

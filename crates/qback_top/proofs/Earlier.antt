@@ -1,12 +1,12 @@
 -- What is due, and what is left, from an earlier start: calls that only read files went before.
-use Rattle.std.proofs.Common.{◌≡◌, inl, inr, ⊎_elim, ℕ, ◌^◌, ◌<◌, ◌≤◌, List, ◌++◌, length, take, IsTrue, IsSome, Some, None, Result, Ok, Err, IfOk, OnErr, sym, ap, subst, ◌∙◌}
+use Rattle.std.proofs.Common.{◌≡◌, inl, inr, ⊎_elim, ℕ, ◌^◌, ◌<◌, ◌≤◌, List, ◌++◌, length, map, take, IsTrue, IsSome, Some, None, Result, Ok, Err, IfOk, OnErr, sym, ap, subst, ◌∙◌}
 use Rattle.std.specs.Prelude.{codes}
 use Rattle.disk_model.specs.World.{World, Runs}
 use Rattle.disk_model.proofs.Moments.{run_on, run_more}
 use Rattle.qc_layout.specs.FirstForm.{IsTaken, StandsInFirstForm}
 use Rattle.plain_model.specs.History.{now}
-use Rattle.plain_model.specs.Script.{Order, Say, FirstBad, lines_of}
-use Rattle.plain_model.specs.Replay.{printed_from}
+use Rattle.script_model.specs.Lines.{Line, IsScript, FirstBad}
+use Rattle.qback_top.specs.Orders.{Order, order_of, printed_from}
 use Rattle.qback_top.specs.declared.end.End.{End}
 use Rattle.qback_top.specs.declared.end.End.TheVariants as ends
 use Rattle.qback_top.specs.Open.{Spares, KeepsRest}
@@ -38,7 +38,7 @@ module _ {a b : World} (look : Runs looks a b) where
     due.2,
     there_before words name due.0 due.1 due.2 due.3,
     subst (λ (t : List ℕ). length t ≤ 2 ^ 28) (seen_is due.2) due.4,
-    (due.5.0, subst (λ (t : List ℕ). Say (lines_of t) due.5.0) (seen_is due.2) due.5.1),
+    (due.5.0, subst (λ (t : List ℕ). IsScript t due.5.0) (seen_is due.2) due.5.1),
     λ taken. due.6 (subst IsTaken (sym (seen_is due.1)) taken),
   )
 
@@ -57,14 +57,14 @@ module _ {a b : World} (look : Runs looks a b) where
       (λ (unbuilt : IsUnbuilt words b name × (reason ≡ codes "Unbuilt")). inr (unbuilt_before words name unbuilt.0, unbuilt.1))
       due
   due_before words (BadLine n) due =
-      (due.0, due.1, due.2, due.3, there_before words due.0 due.1 due.2 due.3 due.4, subst (λ (t : List ℕ). length t ≤ 2 ^ 28) (seen_is due.3) due.5, subst (λ (t : List ℕ). FirstBad (lines_of t) n) (seen_is due.3) due.6)
-  due_before words (Ran number orders) due = (
+      (due.0, due.1, due.2, due.3, there_before words due.0 due.1 due.2 due.3 due.4, subst (λ (t : List ℕ). length t ≤ 2 ^ 28) (seen_is due.3) due.5, subst (λ (t : List ℕ). FirstBad t n) (seen_is due.3) due.6)
+  due_before words (Ran number lines) due = (
     due.0,
     due.1,
     due.2,
     there_before words due.0 due.1 number due.2 due.3,
     subst (λ (t : List ℕ). length t ≤ 2 ^ 28) (seen_is due.2) due.4,
-    subst (λ (t : List ℕ). Say (lines_of t) orders) (seen_is due.2) due.5,
+    subst (λ (t : List ℕ). IsScript t lines) (seen_is due.2) due.5,
     subst IsTaken (seen_is number) due.6,
   )
   due_before words NoForm due = absurd due
@@ -72,8 +72,8 @@ module _ {a b : World} (look : Runs looks a b) where
   due_before words (Made task) due = absurd due
   due_before words (Told text) due = absurd due
 
-  part_before : (text : List ℕ) (f : ℕ) (e : World) → PrintsUntilClosed text f b e → PrintsUntilClosed text f a e
-  part_before text f e part told = let p = part (subst IsTrue (sym look.prints) told) in (p.0, p.1 ∙ ap (λ (t : List ℕ). t ++ take p.0 text) (look.printed (λ none. none)), p.2)
+  part_before : (orders : List Order) (text : List ℕ) (f : ℕ) (e : World) → PrintsUntilClosed orders text f b e → PrintsUntilClosed orders text f a e
+  part_before orders text f e part told = let p = part (subst IsTrue (sym look.prints) told) in (p.0, p.1 ∙ ap (λ (t : List ℕ). t ++ take p.0 text) (look.printed (λ none. none)), p.2)
 
   reached_before : {f k : ℕ} {from : List ℕ} {orders : List Order} (e : World) → Reached from orders k f b e → Reached from orders k f a e
   reached_before {f} {k} {from} {orders} e reached = record {
@@ -99,7 +99,7 @@ module _ {a b : World} (look : Runs looks a b) where
   pub begun_before : (f : ℕ) (orders : List Order) (e : World) → ReplayedInPart f orders b e → ReplayedInPart f orders a e
   begun_before f orders e begun = record {
     run = works_before f e begun.run;
-    answers = λ h stands. part_before (printed_from (now h) orders) f e (begun.answers h (stands_before f (now h) stands));
+    answers = λ h stands. part_before orders (printed_from (now h) orders) f e (begun.answers h (stands_before f (now h) stands));
     reached = λ h stands. let r = begun.reached h (stands_before f (now h) stands) in (r.0, reached_before e r.1);
     spares = subst (λ (file : List ℕ). Spares file (e.seen f)) (seen_is f) begun.spares;
   }
@@ -107,11 +107,11 @@ module _ {a b : World} (look : Runs looks a b) where
   pub stopped_before : (words : List (List ℕ)) (e : World) → StopsInReplay words b e → StopsInReplay words a e
   stopped_before words e stopped = ⊎_elim
       (λ (none : Runs looks b e). inl (run_on look none))
-      (λ (some : (number : ℕ) × (orders : List Order) × ReplayDue words b (Ran number orders) × ReplayedInPart number orders b e). inr (some.0, some.1, due_before words (Ran some.0 some.1) some.2, begun_before some.0 some.1 e some.3))
+      (λ (some : (number : ℕ) × (lines : List Line) × ReplayDue words b (Ran number lines) × ReplayedInPart number (map order_of lines) b e). inr (some.0, some.1, due_before words (Ran some.0 some.1) some.2, begun_before some.0 (map order_of some.1) e some.3))
       stopped
 
   pub shows_before : (words : List (List ℕ)) (e : World) (end : End) → ShowsReplay words b e end → ShowsReplay words a e end
-  shows_before words e ends.Done shows = (shows.0, shows.1, due_before words (Ran shows.0 shows.1) shows.2, replayed_before shows.0 shows.1 e shows.3)
+  shows_before words e ends.Done shows = (shows.0, shows.1, due_before words (Ran shows.0 shows.1) shows.2, replayed_before shows.0 (map order_of shows.1) e shows.3)
   shows_before words e (ends.Missing name) shows = (due_before words (Missing name.now) shows.0, run_on look shows.1)
   shows_before words e (ends.Refused name reason) shows = (due_before words (Refused name.now reason.now) shows.0, run_on look shows.1)
   shows_before words e (ends.BadLine n) shows = (due_before words (BadLine n) shows.0, run_on look shows.1)

@@ -7,8 +7,7 @@ pub mod Torn
 pub mod Growing
 pub mod Answering
 pub mod Running
-pub mod WordLaws
-pub mod ScriptLaws
+pub mod OrderLaws
 pub mod Opened
 pub mod Saying
 pub mod Replaying

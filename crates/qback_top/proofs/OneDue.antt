@@ -151,4 +151,4 @@ status_tells (Refused name reason) = (λ e. absurd (omega arith), λ e. absurd (
 status_tells (BadLine n) = (λ e. absurd (omega arith), λ e. absurd (omega arith), λ e. (n, refl), λ e. absurd (omega arith))
 status_tells (Made task) = (λ e. inr (inl (task, refl)), λ e. absurd (omega arith), λ e. absurd (omega arith), λ e. absurd (omega arith))
 status_tells (Told text) = (λ e. inr (inr (text, refl)), λ e. absurd (omega arith), λ e. absurd (omega arith), λ e. absurd (omega arith))
-status_tells (Ran number orders) = (λ e. inl (number, orders, refl), λ e. absurd (omega arith), λ e. absurd (omega arith), λ e. absurd (omega arith))
+status_tells (Ran number lines) = (λ e. inl (number, lines, refl), λ e. absurd (omega arith), λ e. absurd (omega arith), λ e. absurd (omega arith))

@@ -3,8 +3,9 @@ use Rattle.std.proofs.Common.{◌≡◌, ⊎_elim, ℕ, ◌^◌, ◌<◌, ◌≤
 use Rattle.std.specs.Prelude.{codes}
 use Rattle.disk_model.specs.World.{World}
 use Rattle.qc_layout.specs.FirstForm.{IsTaken}
-use Rattle.plain_model.specs.Script.{Order, Say, FirstBad, lines_of}
-use Rattle.plain_model.proofs.Sayings.{one_saying, bad_says_nothing, one_first_bad}
+use Rattle.script_model.specs.Words.{lines_of}
+use Rattle.script_model.specs.Lines.{Line, IsScript, FirstBad}
+use Rattle.script_model.proofs.Sayings.{one_saying, bad_says_nothing, one_first_bad}
 use Rattle.qback_top.specs.Words.{IsReplay}
 use Rattle.qback_top.specs.Replays.{AreThere, IsTooLong, IsUnbuilt, ReplayDue}
 use Rattle.qback_top.specs.Endings.{Ending, NoForm, Missing, Exists, Refused, BadLine, Made, Told, Ran}
@@ -73,7 +74,7 @@ missing_alone words w name (Refused other reason) h k = ⊎_elim
     (λ (u : IsUnbuilt words w other × (reason ≡ codes "Unbuilt")). absurd (none_there words w name other u.0.0 u.0.1 u.0.2 h u.0.3))
     k
 missing_alone words w name (BadLine n) h k = absurd (none_there words w name k.0 k.1 k.2 k.3 h k.4)
-missing_alone words w name (Ran number orders) h k = absurd (none_there words w name k.0 k.1 number k.2 h k.3)
+missing_alone words w name (Ran number lines) h k = absurd (none_there words w name k.0 k.1 number k.2 h k.3)
 missing_alone words w name NoForm h k = absurd k
 missing_alone words w name (Exists other) h k = absurd k
 missing_alone words w name (Made task) h k = absurd k
@@ -93,19 +94,19 @@ long_alone words w name reason (Refused other why) is h k = ⊎_elim
     (λ (u : IsUnbuilt words w other × (why ≡ codes "Unbuilt")). absurd (long_or_not w h.2 u.0.2 (one_there words w h.0 name h.1 h.2 other u.0.0 u.0.1 u.0.2 h.3 u.0.3).same_text h.4 u.0.4))
     k
 long_alone words w name reason (BadLine n) is h k = absurd (long_or_not w h.2 k.3 (one_there words w h.0 name h.1 h.2 k.0 k.1 k.2 k.3 h.3 k.4).same_text h.4 k.5)
-long_alone words w name reason (Ran number orders) is h k = absurd (long_or_not w h.2 k.2 (one_there words w h.0 name h.1 h.2 k.0 k.1 number k.2 h.3 k.3).same_text h.4 k.4)
+long_alone words w name reason (Ran number lines) is h k = absurd (long_or_not w h.2 k.2 (one_there words w h.0 name h.1 h.2 k.0 k.1 number k.2 h.3 k.3).same_text h.4 k.4)
 long_alone words w name reason NoForm is h k = absurd k
 long_alone words w name reason (Exists other) is h k = absurd k
 long_alone words w name reason (Made task) is h k = absurd k
 long_alone words w name reason (Told text) is h k = absurd k
 
 -- a bad line against a script that says something
-bad_or_says : (w : World) (text text2 : ℕ) (n : ℕ) (orders : List Order) → text ≡ text2 → FirstBad (lines_of (w.seen text)) n → Say (lines_of (w.seen text2)) orders → ⊥
-bad_or_says w text text2 n orders e bad says = bad_says_nothing (lines_of (w.seen text2)) n orders (subst (λ t. FirstBad (lines_of (w.seen t)) n) e bad) says
+bad_or_says : (w : World) (text text2 : ℕ) (n : ℕ) (lines : List Line) → text ≡ text2 → FirstBad (w.seen text) n → IsScript (w.seen text2) lines → ⊥
+bad_or_says w text text2 n lines e bad says = bad_says_nothing (lines_of (w.seen text2)) n lines (subst (λ t. FirstBad (w.seen t) n) e bad) says
 
 -- an image that isn't taken against one that is
-unbuilt_or_ran : (words : List (List ℕ)) (w : World) (name : List ℕ) (number : ℕ) (orders : List Order) → IsUnbuilt words w name → ReplayDue words w (Ran number orders) → ⊥
-unbuilt_or_ran words w name number orders h k =
+unbuilt_or_ran : (words : List (List ℕ)) (w : World) (name : List ℕ) (number : ℕ) (lines : List Line) → IsUnbuilt words w name → ReplayDue words w (Ran number lines) → ⊥
+unbuilt_or_ran words w name number lines h k =
     let e = (one_there words w name h.0 h.1 h.2 k.0 k.1 number k.2 h.3 k.3).same_image in
     h.6 (subst (λ t. IsTaken (w.seen t)) (sym e) k.6)
 
@@ -116,7 +117,7 @@ unbuilt_alone words w name reason (Refused other why) is h k = ⊎_elim
     (λ (u : IsUnbuilt words w other × (why ≡ codes "Unbuilt")). same_refusal name other reason why (codes "Unbuilt") (one_there words w name h.0 h.1 h.2 other u.0.0 u.0.1 u.0.2 h.3 u.0.3).names.same_file is u.1)
     k
 unbuilt_alone words w name reason (BadLine n) is h k = absurd (bad_or_says w k.3 h.2 n h.5.0 (one_there words w k.0 k.1 k.2 k.3 name h.0 h.1 h.2 k.4 h.3).same_text k.6 h.5.1)
-unbuilt_alone words w name reason (Ran number orders) is h k = absurd (unbuilt_or_ran words w name number orders h k)
+unbuilt_alone words w name reason (Ran number lines) is h k = absurd (unbuilt_or_ran words w name number lines h k)
 unbuilt_alone words w name reason NoForm is h k = absurd k
 unbuilt_alone words w name reason (Exists other) is h k = absurd k
 unbuilt_alone words w name reason (Made task) is h k = absurd k
@@ -131,16 +132,16 @@ refused_alone words w name reason b h k = ⊎_elim
 one_bad : (words : List (List ℕ)) (w : World) (n m : ℕ) → ReplayDue words w (BadLine n) → ReplayDue words w (BadLine m) → BadLine n ≡ BadLine m
 one_bad words w n m h k =
     let e = (one_there words w h.0 h.1 h.2 h.3 k.0 k.1 k.2 k.3 h.4 k.4).same_text in
-    ap BadLine (one_first_bad (lines_of (w.seen k.3)) n m (subst (λ t. FirstBad (lines_of (w.seen t)) n) e h.6) k.6)
+    ap BadLine (one_first_bad (lines_of (w.seen k.3)) n m (subst (λ t. FirstBad (w.seen t) n) e h.6) k.6)
 
-bad_or_ran : (words : List (List ℕ)) (w : World) (n number : ℕ) (orders : List Order) → ReplayDue words w (BadLine n) → ReplayDue words w (Ran number orders) → ⊥
-bad_or_ran words w n number orders h k = bad_or_says w h.3 k.2 n orders (one_there words w h.0 h.1 h.2 h.3 k.0 k.1 number k.2 h.4 k.3).same_text h.6 k.5
+bad_or_ran : (words : List (List ℕ)) (w : World) (n number : ℕ) (lines : List Line) → ReplayDue words w (BadLine n) → ReplayDue words w (Ran number lines) → ⊥
+bad_or_ran words w n number lines h k = bad_or_says w h.3 k.2 n lines (one_there words w h.0 h.1 h.2 h.3 k.0 k.1 number k.2 h.4 k.3).same_text h.6 k.5
 
-one_run : (words : List (List ℕ)) (w : World) (m n : ℕ) (os ps : List Order) → ReplayDue words w (Ran m os) → ReplayDue words w (Ran n ps) → Ran m os ≡ Ran n ps
-one_run words w m n os ps h k =
+one_run : (words : List (List ℕ)) (w : World) (m n : ℕ) (ls ms : List Line) → ReplayDue words w (Ran m ls) → ReplayDue words w (Ran n ms) → Ran m ls ≡ Ran n ms
+one_run words w m n ls ms h k =
     let e = one_there words w h.0 h.1 m h.2 k.0 k.1 n k.2 h.3 k.3 in
-    let orders = one_saying (lines_of (w.seen k.2)) os ps (subst (λ t. Say (lines_of (w.seen t)) os) e.same_text h.5) k.5 in
-    cc (e.same_image, orders)
+    let lines = one_saying (lines_of (w.seen k.2)) ls ms (subst (λ t. IsScript (w.seen t) ls) e.same_text h.5) k.5 in
+    cc (e.same_image, lines)
 
 -- ---- the law
 
@@ -150,9 +151,9 @@ one_replay_due words w (Refused name reason) b h k = refused_alone words w name 
 one_replay_due words w a (Missing name) h k = sym (missing_alone words w name a k h)
 one_replay_due words w a (Refused name reason) h k = sym (refused_alone words w name reason a k h)
 one_replay_due words w (BadLine n) (BadLine m) h k = one_bad words w n m h k
-one_replay_due words w (BadLine n) (Ran number orders) h k = absurd (bad_or_ran words w n number orders h k)
-one_replay_due words w (Ran number orders) (BadLine n) h k = absurd (bad_or_ran words w n number orders k h)
-one_replay_due words w (Ran m os) (Ran n ps) h k = one_run words w m n os ps h k
+one_replay_due words w (BadLine n) (Ran number lines) h k = absurd (bad_or_ran words w n number lines h k)
+one_replay_due words w (Ran number lines) (BadLine n) h k = absurd (bad_or_ran words w n number lines k h)
+one_replay_due words w (Ran m ls) (Ran n ms) h k = one_run words w m n ls ms h k
 one_replay_due words w NoForm b h k = absurd h
 one_replay_due words w (Exists name) b h k = absurd h
 one_replay_due words w (Made task) b h k = absurd h

@@ -2,8 +2,8 @@
 use Rattle.std.proofs.Common.{◌≡◌, ◌∷◌, [], ℕ, List, Option, Some, None, Ok, get_or, refl, sym, ap, subst, ◌∙◌, arith}
 use Rattle.std.specs.Prelude.{codes}
 use Rattle.hex.specs.Hex.{decode_sized}
-use Rattle.plain_model.specs.Script.{IsNumber}
-use Rattle.plain_model.proofs.Words.{one_number}
+use Rattle.script_model.specs.Words.{IsNumber}
+use Rattle.script_model.proofs.Numbers.{one_number}
 use Rattle.qback_top.specs.declared.words.Task.{Task}
 use Rattle.qback_top.specs.declared.words.Task.TheVariants.{CreateSource, CreateTarget, Info, Replay}
 use Rattle.qback_top.specs.Words.{IsTask, IsId, IsReplay, IsInfo, IsCreateSource, IsCreateTarget, backing_words}

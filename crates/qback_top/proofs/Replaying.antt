@@ -4,13 +4,13 @@ use Rattle.std.specs.Prelude.{codes}
 use Rattle.disk_model.specs.World.{World, Runs, nothing, reads_of, file_and_text, IsGiven}
 use Rattle.disk_model.proofs.Moments.{Within, nothing_within, given_on, run_more, run_on}
 use Rattle.qc_layout.specs.FirstForm.{IsTaken}
-use Rattle.plain_model.specs.Script.{Order, Say, lines_of}
-use Rattle.plain_model.specs.Replay.{printed_from, disk_from}
-use Rattle.plain_model.proofs.Runs.{now-extended}
+use Rattle.script_model.specs.Lines.{Line, IsScript}
+use Rattle.qback_top.specs.Orders.{Order, printed_from, disk_from}
 use Rattle.qback_top.specs.Lines.{RanLines, BegunLines, PrintsUntilClosed, Reached}
 use Rattle.qback_top.specs.Replays.{AreThere, ReplayDue, Replayed, ReplayedInPart}
 use Rattle.qback_top.specs.Endings.{Refused, Ran, looks, works_on, works_on_name}
 use Rattle.qback_top.specs.Shown.{StopsInReplay}
+use Rattle.qback_top.proofs.OrderLaws.{now-extended}
 
 -- ---- parts
 
@@ -56,7 +56,7 @@ module _ {b c : World} {f : ℕ} {orders : List Order} (work : Runs (file_and_te
   pub replayed_part : BegunLines b c f orders → ReplayedInPart f orders b c
   replayed_part begun = record {
     run = run_more (file_within_work f) work;
-    answers = λ h stands. subst (λ (d : List ℕ). PrintsUntilClosed (printed_from d orders) f b c) stands.bytes begun.printed;
+    answers = λ h stands. subst (λ (d : List ℕ). PrintsUntilClosed orders (printed_from d orders) f b c) stands.bytes begun.printed;
     reached = λ h stands. (begun.reached.0, subst (λ (d : List ℕ). Reached d orders begun.reached.0 f b c) stands.bytes begun.reached.1);
     spares = begun.spares;
   }
@@ -72,14 +72,14 @@ module _ {b c : World} {f : ℕ} {orders : List Order} (work : Runs (file_and_te
   }
 
 -- the run was due
-pub run_due : (words : List (List ℕ)) (w : World) (file script : List ℕ) (image text : ℕ) (orders : List Order) → AreThere words w file script image text → length (w.seen text) ≤ 2 ^ 28 → Say (lines_of (w.seen text)) orders → IsTaken (w.seen image)
-    → ReplayDue words w (Ran image orders)
-run_due words w file script image text orders there short says taken = (file, script, text, there, short, says, taken)
+pub run_due : (words : List (List ℕ)) (w : World) (file script : List ℕ) (image text : ℕ) (lines : List Line) → AreThere words w file script image text → length (w.seen text) ≤ 2 ^ 28 → IsScript (w.seen text) lines → IsTaken (w.seen image)
+    → ReplayDue words w (Ran image lines)
+run_due words w file script image text lines there short says taken = (file, script, text, there, short, says, taken)
 
 -- the image was refused
-pub unbuilt_due : (words : List (List ℕ)) (w : World) (file script : List ℕ) (image text : ℕ) (orders : List Order) → AreThere words w file script image text → length (w.seen text) ≤ 2 ^ 28 → Say (lines_of (w.seen text)) orders
+pub unbuilt_due : (words : List (List ℕ)) (w : World) (file script : List ℕ) (image text : ℕ) (lines : List Line) → AreThere words w file script image text → length (w.seen text) ≤ 2 ^ 28 → IsScript (w.seen text) lines
     → (IsTaken (w.seen image) → ⊥) → ReplayDue words w (Refused file (codes "Unbuilt"))
-unbuilt_due words w file script image text orders there short says refused = inr ((script, image, text, there, short, (orders, says), refused), refl)
+unbuilt_due words w file script image text lines there short says refused = inr ((script, image, text, there, short, (lines, says), refused), refl)
 
 -- a run stopped early, whatever error it answers
 abbrev pub StopsFrom : World → World → List ℕ → List ℕ → ℕ → ℕ → Type 0

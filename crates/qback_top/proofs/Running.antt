@@ -1,135 +1,110 @@
 -- The lines of a script carried out one after another, from what each tells.
-use Rattle.std.proofs.Common.{length-take, ◌≡◌, ◌≢◌, ◌⊎◌, inl, inr, ⊎_elim, ℕ, suc, ◌+◌, ◌*◌, ◌^◌, ◌≤◌, length-append, List, [], ◌∷◌, ◌++◌, length, take, drop, append_assoc, IsTrue, Option, Some, refl, sym, ap, subst, ◌∙◌, arith}
+use Rattle.std.proofs.Common.{length-take, ◌≡◌, ◌⊎◌, inl, inr, ℕ, ◌+◌, ◌*◌, ◌^◌, ◌≤◌, length-append, List, [], ◌∷◌, ◌++◌, length, map, take, drop, append_assoc, true, false, IsTrue, Option, Some, refl, sym, ap, subst, ◌∙◌, arith}
 use Rattle.std.specs.Option.{MatchOption}
-use Rattle.std.proofs.Math.Seq.{take-append_seam}
+use Rattle.std.proofs.lemmas.Bool.{cases_Bool}
+use Rattle.std.proofs.Math.Seq.{take-append_seam, take-append-add}
 use Rattle.std.proofs.lemmas.List.{append-nil, take-append-drop}
+use Rattle.std.specs.Prelude.{bytes_eq}
 use Rattle.disk_model.specs.World.{World, Parts, Runs, only_text, file_and_text, PrintsPart, Syncs, HasSynced, IsSound, EachNow}
 use Rattle.disk_model.proofs.Moments.{now_synced, now_spared, rose_after}
 use Rattle.qc_layout.specs.FirstForm.{IsFirstForm, disk_of}
-use Rattle.plain_model.specs.Script.{Order, Write, Read, Quit, Nothing, lines_of, without_return, Spells, HasNoForm, Say}
-use Rattle.plain_model.specs.Replay.{printed_by, disk_by, printed_from, disk_from, ok_line}
-use Rattle.plain_model.proofs.Sayings.{one_order}
+use Rattle.core_events.specs.declared.events.Way.{Way}
+use Rattle.core_events.specs.declared.events.Way.TheVariants.{Node, Export}
+use Rattle.core_events.specs.declared.events.Work.{Work}
+use Rattle.core_events.specs.declared.events.Work.TheVariants as work
+use Rattle.script_model.specs.Words.{lines_of, without_return}
+use Rattle.script_model.specs.Lines.{Line, Spells, HasNoForm, Say, drive}
+use Rattle.script_model.proofs.Sayings.{one_line}
+use Rattle.script_codec.specs.declared.lines.Line as declared
+use Rattle.script_codec.specs.declared.lines.Line.TheVariants as code
+use Rattle.script_codec.specs.Views.{plain_line}
+use Rattle.qback_top.specs.Orders.{Order, Stop, Quit, drive_order, request_order, order_of, printed_by, disk_by, until_end, closes, end_line, answers_from, carried_from, printed_from, disk_from}
+use Rattle.plain_model.specs.Console.{ok_line, stopped_line}
 use Rattle.qback_top.specs.declared.image.Image.{Image}
-use Rattle.qback_top.specs.declared.script.Line.{Line}
-use Rattle.qback_top.specs.declared.script.Line.TheVariants as code
-use Rattle.qback_top.specs.declared.stop.Stop.{Stop}
+use Rattle.qback_top.specs.declared.stop.Stop as reason
 use Rattle.qback_top.specs.declared.stop.Stop.TheVariants.{Memory, Fault}
 use Rattle.qback_top.specs.Stops.{Needs}
-use Rattle.qback_top.specs.Text.{order}
 use Rattle.qback_top.specs.Open.{IsOpen, Spares, Between, KeepsRest}
-use Rattle.qback_top.specs.Lines.{Answered, Begun, RanLines, BegunLines, PrintsUntilClosed, Reached}
+use Rattle.qback_top.specs.Lines.{Answered, Begun, RanLines, BegunLines, IsClosed}
+use Rattle.qback_top.proofs.OrderLaws.{GoesOn, goes_on, answers-append, carried-append, answers_none, answers_on, answers_one, carried_none, carried_one}
 use Rattle.qback_top.proofs.Tables.{keeps_none, keeps_on, spares_on}
 use Rattle.qback_top.proofs.Torn.{between_first}
-use Rattle.qback_top.proofs.Saying.{text_same, part_after, said_after}
+use Rattle.qback_top.proofs.Saying.{text_same}
 
--- ---- the orders that are left
+-- ---- the lines that are left
 
--- they are none, or the first of them quits
-abbrev pub Ends : List Order → Type 0
-Ends orders = (orders ≡ []) ⊎ ((more : List Order) × (orders ≡ Quit ∷ more))
-
--- the first of these lines says this order, and the others follow
-pub record IsLine (lines rest : List (List ℕ)) (o : Order) : Type 0 where
+-- the first of these texts says this line, and the others follow
+pub record IsLine (texts rest : List (List ℕ)) (l : Line) : Type 0 where
   pub raw : List ℕ
   pub text : List ℕ
-  pub is : lines ≡ raw ∷ rest
+  pub is : texts ≡ raw ∷ rest
   pub trim : text ≡ without_return raw
-  pub spelled : Spells text o
+  pub spelled : Spells text l
 
--- what the first line says is the first order
-pub first_order : {lines rest : List (List ℕ)} {o : Order} (orders : List Order) → IsLine lines rest o → Say lines orders → (more : List Order) × (orders ≡ o ∷ more) × Say rest more
-first_order {lines} {rest} {o} orders line says = by_cases orders (subst (λ (ls : List (List ℕ)). Say ls orders) line.is says)
+-- what the first text says is the first line
+pub first_line : {texts rest : List (List ℕ)} {l : Line} (lines : List Line) → IsLine texts rest l → Say texts lines → (more : List Line) × (lines ≡ l ∷ more) × Say rest more
+first_line {texts} {rest} {l} lines line says = by_cases lines (subst (λ (ts : List (List ℕ)). Say ts lines) line.is says)
   where
-    by_cases : (os : List Order) → Say (line.raw ∷ rest) os → (more : List Order) × (os ≡ o ∷ more) × Say rest more
+    by_cases : (ls : List Line) → Say (line.raw ∷ rest) ls → (more : List Line) × (ls ≡ l ∷ more) × Say rest more
     by_cases [] s = absurd s
-    by_cases (p ∷ ps) s = (ps, ap (λ (q : Order). q ∷ ps) (one_order (without_return line.raw) p o s.0 (subst (λ (t : List ℕ). Spells t o) line.trim line.spelled)), s.1)
+    by_cases (m ∷ ms) s = (ms, ap (λ (k : Line). k ∷ ms) (one_line (without_return line.raw) m l s.0 (subst (λ (t : List ℕ). Spells t l) line.trim line.spelled)), s.1)
 
 -- past a line that has a form, the rest says something
-pub says_on : {lines rest : List (List ℕ)} {o : Order} → IsLine lines rest o → (orders : List Order) × Say lines orders → (more : List Order) × Say rest more
+pub says_on : {texts rest : List (List ℕ)} {l : Line} → IsLine texts rest l → (lines : List Line) × Say texts lines → (more : List Line) × Say rest more
 says_on line says =
-    let first = first_order says.0 line says.1 in
+    let first = first_line says.0 line says.1 in
     (first.0, first.2)
 
 -- what was found in a line's text
-pub line_found : (found : Option Line) (text : List ℕ) (l : Line) → found ≡ Some l → MatchOption found (HasNoForm text) (λ x. Spells text (order x)) → Spells text (order l)
-line_found found text l e m = subst (λ (o : Option Line). MatchOption o (HasNoForm text) (λ x. Spells text (order x))) e m
+pub line_found : (found : Option declared.Line) (text : List ℕ) (l : declared.Line) → found ≡ Some l → MatchOption found (HasNoForm text) (λ x. Spells text (plain_line x)) → Spells text (plain_line l)
+line_found found text l e m = subst (λ (o : Option declared.Line). MatchOption o (HasNoForm text) (λ x. Spells text (plain_line x))) e m
 
--- no lines say no orders
-pub ends_empty : (text : List ℕ) → text ≡ [] → (orders : List Order) → Say (lines_of text) orders → Ends orders
-ends_empty text e orders says = by_cases orders (subst (λ (t : List ℕ). Say (lines_of t) orders) e says)
+-- no texts say no lines
+pub no_lines : (text : List ℕ) → text ≡ [] → (lines : List Line) → Say (lines_of text) lines → lines ≡ []
+no_lines text e lines says = by_cases lines (subst (λ (t : List ℕ). Say (lines_of t) lines) e says)
   where
-    by_cases : (os : List Order) → Say [] os → Ends os
-    by_cases [] s = inl refl
-    by_cases (o ∷ os) s = absurd s
+    by_cases : (ls : List Line) → Say [] ls → ls ≡ []
+    by_cases [] s = refl
+    by_cases (l ∷ ls) s = absurd s
 
--- nor do any others count after one that quits
-pub ends_quit : {lines rest : List (List ℕ)} (orders : List Order) → IsLine lines rest Quit → Say lines orders → Ends orders
-ends_quit orders line says =
-    let first = first_order orders line says in
-    inr (first.0, first.1)
+-- ---- lines that don't end the run
 
-pub not_quit : (l : Line) → (l ≡ code.Quit → ⊥) → order l ≢ Quit
-not_quit (code.Write at bytes) other e = absurd cc
-not_quit (code.Read at n) other e = absurd cc
-not_quit code.Quit other e = other refl
-not_quit code.Nothing other e = absurd cc
+drive_goes_on : (w : Work) (at n : ℕ) (bytes : List ℕ) → GoesOn (drive_order w at n bytes)
+drive_goes_on work.Read at n bytes = goes_on _ (λ e. absurd cc) (λ e. absurd cc)
+drive_goes_on (work.Write fua) at n bytes = goes_on _ (λ e. absurd cc) (λ e. absurd cc)
+drive_goes_on (work.Zero fua no_hole) at n bytes = goes_on _ (λ e. absurd cc) (λ e. absurd cc)
+drive_goes_on work.Flush at n bytes = goes_on _ (λ e. absurd cc) (λ e. absurd cc)
+drive_goes_on (work.Status context one) at n bytes = goes_on _ (λ e. absurd cc) (λ e. absurd cc)
 
-pub printed_on : (disk : List ℕ) (o : Order) (os : List Order) → o ≢ Quit → printed_from disk (o ∷ os) ≡ printed_by disk o ++ printed_from (disk_by disk o) os
-unfolding printed_from
-printed_on disk (Write at bytes) os other = refl
-printed_on disk (Read at n) os other = refl
-printed_on disk Quit os other = absurd (other refl)
-printed_on disk Nothing os other = refl
+request_goes_on : (way : Way) (w : Work) (at n : ℕ) (bytes : List ℕ) → GoesOn (request_order way w at n bytes)
+request_goes_on (Node name) w at n bytes = elim (cases_Bool (bytes_eq name drive)) [
+  | inl e ↦ rw e (drive_goes_on w at n bytes)
+  | inr e ↦ rw e (goes_on _ (λ f. absurd cc) (λ f. absurd cc))
+]
+request_goes_on (Export name) w at n bytes = goes_on _ (λ e. absurd cc) (λ e. absurd cc)
 
-pub disk_on : (disk : List ℕ) (o : Order) (os : List Order) → o ≢ Quit → disk_from disk (o ∷ os) ≡ disk_from (disk_by disk o) os
-unfolding disk_from
-disk_on disk (Write at bytes) os other = refl
-disk_on disk (Read at n) os other = refl
-disk_on disk Quit os other = absurd (other refl)
-disk_on disk Nothing os other = refl
-
-pub printed_end : (disk : List ℕ) (orders : List Order) → Ends orders → printed_from disk orders ≡ ok_line
-unfolding printed_from
-printed_end disk orders (inl e) = rw e refl
-printed_end disk orders (inr (more, e)) = rw e refl
-
-pub disk_end : (disk : List ℕ) (orders : List Order) → Ends orders → disk_from disk orders ≡ disk
-unfolding disk_from
-disk_end disk orders (inl e) = rw e refl
-disk_end disk orders (inr (more, e)) = rw e refl
-
--- nor do more of them
-ends_one : (orders : List Order) → Ends orders → Ends (take 1 orders)
-ends_one orders (inl e) = inl (ap (take 1) e)
-ends_one orders (inr (more, e)) = inr ([], ap (take 1) e)
-
--- the answer to the closing stands at the end
-pub closing_last : (disk : List ℕ) (orders : List Order) → length ok_line ≤ length (printed_from disk orders)
-unfolding printed_from
-closing_last disk [] = omega arith
-closing_last disk (Quit ∷ orders) = omega arith
-closing_last disk (Nothing ∷ orders) = closing_last disk orders
-closing_last disk (Read at n ∷ orders) = let rest = closing_last disk orders in omega (arith, length-append (printed_by disk (Read at n)) (printed_from disk orders))
-closing_last disk (Write at bytes ∷ orders) =
-    let rest = closing_last (disk_by disk (Write at bytes)) orders in omega (arith, length-append (printed_by disk (Write at bytes)) (printed_from (disk_by disk (Write at bytes)) orders))
+-- a line that neither stops nor quits doesn't end it
+pub line_goes_on : (l : declared.Line) → (l ≡ code.Stop → ⊥) → (l ≡ code.Quit → ⊥) → GoesOn (order_of (plain_line l))
+line_goes_on (code.Ask r) stop quit = request_goes_on r.way r.work r.offset r.length r.bytes.items.items
+line_goes_on (code.Qmp json) stop quit = goes_on _ (λ e. absurd cc) (λ e. absurd cc)
+line_goes_on code.Tick stop quit = goes_on _ (λ e. absurd cc) (λ e. absurd cc)
+line_goes_on code.Stop stop quit = absurd (stop refl)
+line_goes_on code.Quit stop quit = absurd (quit refl)
+line_goes_on code.Nothing stop quit = goes_on _ (λ e. absurd cc) (λ e. absurd cc)
 
 -- ---- the lines so far
 
--- these lines are left of those that say these orders, and the others were carried out and answered
-pub record RanSoFar (old now : World) (image : Image) (f : ℕ) (lines : List (List ℕ)) (all : List Order) : Type 0 where
-  pub orders : List Order
-  pub says : Say lines orders
+-- these texts are left of those that say these orders, and the orders before them were carried out and answered
+pub record RanSoFar (old now : World) (image : Image) (f : ℕ) (texts : List (List ℕ)) (all : List Order) : Type 0 where
+  pub done : List Order
+  pub left : List Line
+  pub says : Say texts left
+  pub parts : until_end all ≡ done ++ until_end (map order_of left)
+  pub closing : closes all ≡ closes (map order_of left)
   pub opened : IsOpen image (now.seen f)
   pub keeps : KeepsRest (old.seen f) (now.seen f)
-  pub said : List ℕ
-  pub printed : IsTrue old.prints → now.printed ≡ old.printed ++ said
-  pub text : said ++ printed_from (disk_of (now.seen f)) orders ≡ printed_from (disk_of (old.seen f)) all
-  pub disk : disk_from (disk_of (now.seen f)) orders ≡ disk_from (disk_of (old.seen f)) all
-  -- how many were carried out, and the disk after them and the next n
-  pub count : ℕ
-  pub past : (n k : ℕ) → k ≡ count + n → disk_from (disk_of (old.seen f)) (take k all) ≡ disk_from (disk_of (now.seen f)) (take n orders)
-  -- and what is printed for them
-  pub told : (n k : ℕ) → k ≡ count + n → said ++ printed_from (disk_of (now.seen f)) (take n orders) ≡ printed_from (disk_of (old.seen f)) (take k all)
+  pub disk : disk_of (now.seen f) ≡ carried_from (disk_of (old.seen f)) done
+  pub printed : IsTrue old.prints → now.printed ≡ old.printed ++ answers_from (disk_of (old.seen f)) done
 
 -- what is so of the lines so far: the image at the start and now, the text that is left and all of it
 abbrev pub KeepsOn : World → World → Image → Image → List ℕ → List ℕ → Type 0
@@ -138,229 +113,290 @@ KeepsOn old now image after rest text = record {
   size : after.size ≡ image.size;
   l1 : after.l1 ≡ image.l1;
   end : after.end + (2 ^ 22 + 16384) * length rest ≤ image.end + (2 ^ 22 + 16384) * length text;
-  says : (orders : List Order) × Say (lines_of rest) orders;
-  told : IsTrue old.tells → IsOpen image (old.seen image.file.0) → (all : List Order) → Say (lines_of text) all → RanSoFar old now after image.file.0 (lines_of rest) all;
+  says : (lines : List Line) × Say (lines_of rest) lines;
+  told : IsTrue old.tells → IsOpen image (old.seen image.file.0) → (lines : List Line) → Say (lines_of text) lines → RanSoFar old now after image.file.0 (lines_of rest) (map order_of lines);
   run : Runs (file_and_text image.file.0) old now;
 }
 
 -- at the start all of them are left
-pub lines_begin : (w : World) (image : Image) (f : ℕ) (lines : List (List ℕ)) (all : List Order) → IsOpen image (w.seen f) → Say lines all → RanSoFar w w image f lines all
-lines_begin w image f lines all opened says = record {
-  orders = all;
+pub lines_begin : (w : World) (image : Image) (f : ℕ) (texts : List (List ℕ)) (lines : List Line) → IsOpen image (w.seen f) → Say texts lines → RanSoFar w w image f texts (map order_of lines)
+lines_begin w image f texts lines opened says = record {
+  done = [];
+  left = lines;
   says = says;
+  parts = refl;
+  closing = refl;
   opened = opened;
   keeps = keeps_none (w.seen f);
-  said = [];
-  printed = λ prints. sym (append-nil w.printed);
-  text = refl;
-  disk = refl;
-  count = 0;
-  past = λ n k e. ap (λ (j : ℕ). disk_from (disk_of (w.seen f)) (take j all)) (omega (arith, e));
-  told = λ n k e. ap (λ (j : ℕ). printed_from (disk_of (w.seen f)) (take j all)) (omega (arith, e));
+  disk = sym (carried_none (disk_of (w.seen f)));
+  printed = λ prints. sym (append-nil w.printed) ∙ ap (λ (t : List ℕ). w.printed ++ t) (sym (answers_none (disk_of (w.seen f))));
 }
 
+-- the orders that are left, where this line is the first
+module _ {old now : World} {image : Image} {f : ℕ} {texts rest : List (List ℕ)} {l : Line} {all : List Order} (line : IsLine texts rest l) (r : RanSoFar old now image f texts all) where
+  abbrev more : List Line
+  more = (first_line r.left line r.says).0
+
+  pub left_is : map order_of r.left ≡ order_of l ∷ map order_of more
+  left_is = ap (map order_of) (first_line r.left line r.says).1
+
+  until_is : GoesOn (order_of l) → until_end (map order_of r.left) ≡ order_of l ∷ until_end (map order_of more)
+  until_is goes = ap until_end left_is ∙ goes.until (map order_of more)
+
 -- a line that was answered is one more
-pub lines_on : {parts : Parts} {old mid new : World} {image after : Image} {m f : ℕ} {lines rest : List (List ℕ)} {o : Order} {all : List Order} → IsLine lines rest o → o ≢ Quit → m ≡ f → IsTrue old.tells → Runs parts old mid
-    → RanSoFar old mid image f lines all → (IsTrue mid.tells → IsOpen image (mid.seen m) → Answered mid new after m o) → RanSoFar old new after f rest all
-lines_on {parts} {old} {mid} {new} {image} {after} {m} {f} {lines} {rest} {o} {all} line other same told run l answered =
-    let did : Answered mid new after f o = subst (λ (k : ℕ). IsTrue mid.tells → IsOpen image (mid.seen k) → Answered mid new after k o) same answered (subst IsTrue (sym run.tells) told) l.opened in
-    let first = first_order l.orders line l.says in
-    let more = first.0 in
-    let disk = disk_of (mid.seen f) in
-    let answer = printed_by disk o in
+pub lines_on : {parts : Parts} {old mid new : World} {image after : Image} {m f : ℕ} {texts rest : List (List ℕ)} {l : Line} {all : List Order} → IsLine texts rest l → GoesOn (order_of l) → m ≡ f → IsTrue old.tells → Runs parts old mid
+    → RanSoFar old mid image f texts all → (IsTrue mid.tells → IsOpen image (mid.seen m) → Answered mid new after m (order_of l)) → RanSoFar old new after f rest all
+lines_on {parts} {old} {mid} {new} {image} {after} {m} {f} {texts} {rest} {l} {all} line goes same told run r answered =
+    let did : Answered mid new after f (order_of l) = subst (λ (k : ℕ). IsTrue mid.tells → IsOpen image (mid.seen k) → Answered mid new after k (order_of l)) same answered (subst IsTrue (sym run.tells) told) r.opened in
+    let start = disk_of (old.seen f) in
+    let o = order_of l in
     record {
-      orders = more;
-      says = first.2;
+      done = r.done ++ o ∷ [];
+      left = more line r;
+      says = (first_line r.left line r.says).2;
+      parts = r.parts ∙ ap (λ (os : List Order). r.done ++ os) (until_is line r goes) ∙ sym (append_assoc r.done (o ∷ []) (until_end (map order_of (more line r))));
+      closing = r.closing ∙ ap closes (left_is line r) ∙ goes.closing (map order_of (more line r));
       opened = did.opened;
-      keeps = keeps_on l.opened.form l.keeps did.keeps;
-      said = l.said ++ answer;
-      printed = λ prints. did.printed (subst IsTrue (sym run.prints) prints) ∙ ap (λ (t : List ℕ). t ++ answer) (l.printed prints) ∙ append_assoc old.printed l.said answer;
-      text = append_assoc l.said answer (printed_from (disk_of (new.seen f)) more) ∙ ap (λ (d : List ℕ). l.said ++ (answer ++ printed_from d more)) did.disk
-          ∙ ap (λ (t : List ℕ). l.said ++ t) (sym (printed_on disk o more other)) ∙ ap (λ (os : List Order). l.said ++ printed_from disk os) (sym first.1) ∙ l.text;
-      disk = ap (λ (d : List ℕ). disk_from d more) did.disk ∙ sym (disk_on disk o more other) ∙ ap (disk_from disk) (sym first.1) ∙ l.disk;
-      count = l.count + 1;
-      past = λ n k e. l.past (suc n) k (omega (arith, e)) ∙ ap (λ (os : List Order). disk_from disk (take (suc n) os)) first.1 ∙ disk_on disk o (take n more) other ∙ ap (λ (d : List ℕ). disk_from d (take n more)) (sym did.disk);
-      told = λ n k e. append_assoc l.said answer (printed_from (disk_of (new.seen f)) (take n more)) ∙ ap (λ (d : List ℕ). l.said ++ (answer ++ printed_from d (take n more))) did.disk
-          ∙ ap (λ (t : List ℕ). l.said ++ t) (sym (printed_on disk o (take n more) other)) ∙ ap (λ (os : List Order). l.said ++ printed_from disk (take (suc n) os)) (sym first.1) ∙ l.told (suc n) k (omega (arith, e));
+      keeps = keeps_on r.opened.form r.keeps did.keeps;
+      disk = did.disk ∙ ap (λ (d : List ℕ). disk_by d o) r.disk ∙ sym (carried_one (carried_from start r.done) o) ∙ sym (carried-append start r.done (o ∷ []));
+      printed = λ prints. did.printed (subst IsTrue (sym run.prints) prints) ∙ ap (λ (t : List ℕ). t ++ printed_by (disk_of (mid.seen f)) o) (r.printed prints)
+          ∙ append_assoc old.printed (answers_from start r.done) (printed_by (disk_of (mid.seen f)) o)
+          ∙ ap (λ (t : List ℕ). old.printed ++ (answers_from start r.done ++ t)) (ap (λ (d : List ℕ). printed_by d o) r.disk ∙ sym (answers_one (carried_from start r.done) o))
+          ∙ ap (λ (t : List ℕ). old.printed ++ t) (sym (answers-append start r.done (o ∷ [])));
     }
-
-module _ {old now : World} {image : Image} {f : ℕ} {lines : List (List ℕ)} {all : List Order} (l : RanSoFar old now image f lines all) where
-  -- the disk after the lines so far, and after one more
-  disk_here : disk_from (disk_of (old.seen f)) (take l.count all) ≡ disk_of (now.seen f)
-  unfolding disk_from
-  disk_here = l.past 0 l.count (omega arith)
-
-  disk_next : (o : Order) (more : List Order) → l.orders ≡ o ∷ more → o ≢ Quit → disk_from (disk_of (old.seen f)) (take (l.count + 1) all) ≡ disk_by (disk_of (now.seen f)) o
-  unfolding disk_from
-  disk_next o more e other = l.past 1 (l.count + 1) refl ∙ ap (λ (os : List Order). disk_from (disk_of (now.seen f)) (take 1 os)) e ∙ disk_on (disk_of (now.seen f)) o [] other
-
-  disk_last : Ends l.orders → disk_from (disk_of (old.seen f)) (take (l.count + 1) all) ≡ disk_of (now.seen f)
-  disk_last at_end = l.past 1 (l.count + 1) refl ∙ disk_end (disk_of (now.seen f)) (take 1 l.orders) (ends_one l.orders at_end)
-
-  -- what was said are the answers so far
-  said_here : length l.said + length ok_line ≡ length (printed_from (disk_of (old.seen f)) (take l.count all))
-  unfolding printed_from
-  said_here = sym (length-append l.said ok_line) ∙ ap length (l.told 0 l.count (omega arith))
-
-  -- with the next answer they are these
-  said_next : length l.said + length (printed_from (disk_of (now.seen f)) (take 1 l.orders)) ≡ length (printed_from (disk_of (old.seen f)) (take (l.count + 1) all))
-  said_next = sym (length-append l.said (printed_from (disk_of (now.seen f)) (take 1 l.orders))) ∙ ap length (l.told 1 (l.count + 1) refl)
-
-  -- a part of the next answer is no more than that answer
-  part_fits : (o : Order) (more : List Order) → l.orders ≡ o ∷ more → o ≢ Quit → (n : ℕ) → length (take n (printed_by (disk_of (now.seen f)) o)) + length ok_line ≤ length (printed_from (disk_of (now.seen f)) (take 1 l.orders))
-  part_fits o more e other n =
-      let disk = disk_of (now.seen f) in
-      let answer = printed_by disk o in
-      let is : printed_from disk (take 1 l.orders) ≡ answer ++ printed_from (disk_by disk o) [] = ap (λ (os : List Order). printed_from disk (take 1 os)) e ∙ printed_on disk o [] other in
-      let last = closing_last (disk_by disk o) [] in
-      let long = ap length is ∙ length-append answer (printed_from (disk_by disk o) []) in
-      let short = length-take n answer in
-      omega arith
-
-  -- of the next answers this was printed: nothing before the next order was carried out, and no more than its answer unless the file was closed
-  reached : (new : World) → Between (disk_from (disk_of (old.seen f)) (take l.count all)) (disk_from (disk_of (old.seen f)) (take (l.count + 1) all)) (disk_of (new.seen f))
-      → (IsTrue old.prints → (x : List ℕ) × (rest : List ℕ) × (x ++ rest ≡ printed_from (disk_of (now.seen f)) l.orders) × (new.printed ≡ now.printed ++ x) × ((x ≡ []) ⊎ (disk_of (new.seen f) ≡ disk_from (disk_of (old.seen f)) (take (l.count + 1) all)))
-      × ((length x + length ok_line ≤ length (printed_from (disk_of (now.seen f)) (take 1 l.orders))) ⊎ EachNow new f (λ c. c ≡ new.seen f)))
-      → Reached (disk_of (old.seen f)) all l.count f old new
-  reached new between next = record {
-    disk = between;
-    printed = λ prints.
-        let p = next prints in
-        let x = p.0 in
-        let whole = printed_from (disk_of (old.seen f)) all in
-        let joined : (l.said ++ x) ++ p.1 ≡ whole = append_assoc l.said x p.1 ∙ ap (λ (t : List ℕ). l.said ++ t) p.2 ∙ l.text in
-        let here = said_here in
-        let long = length-append l.said x in (
-          length (l.said ++ x),
-          p.3 ∙ ap (λ (t : List ℕ). t ++ x) (l.printed prints) ∙ append_assoc old.printed l.said x ∙ ap (λ (t : List ℕ). old.printed ++ t) (sym (take-append_seam (l.said ++ x) p.1) ∙ ap (take (length (l.said ++ x))) joined),
-          omega arith,
-          ⊎_elim (λ (none : x ≡ []). inl (let zero = ap length none in omega arith)) (λ done. inr done) p.4,
-          ⊎_elim (λ (few : length x + length ok_line ≤ length (printed_from (disk_of (now.seen f)) (take 1 l.orders))). inl (let next_long = said_next in omega arith)) (λ closed. inr closed) p.5,
-        );
-  }
 
 -- ---- runs that stop early
 
--- what is left of a text holds the answer to the closing, or the file is closed
-abbrev ClosingIsLeft : List ℕ → ℕ → World → Type 0
-ClosingIsLeft rest f new = (length ok_line ≤ length rest) ⊎ EachNow new f (λ c. c ≡ new.seen f)
+module _ {old now : World} {image : Image} {f : ℕ} {texts : List (List ℕ)} {all : List Order} (r : RanSoFar old now image f texts all) where
+  abbrev pub left_orders : List Order
+  left_orders = until_end (map order_of r.left)
 
--- a part of a text, by what stands before and after its end
-part_of : (old new : World) (f : ℕ) (whole : List ℕ) → (IsTrue old.prints → (x : List ℕ) × (rest : List ℕ) × (x ++ rest ≡ whole) × (new.printed ≡ old.printed ++ x) × ClosingIsLeft rest f new) → PrintsUntilClosed whole f old new
-part_of old new f whole found prints =
-    let p = found prints in (
-      length p.0,
-      p.3 ∙ ap (λ (t : List ℕ). old.printed ++ t) (sym (take-append_seam p.0 p.1) ∙ ap (take (length p.0)) p.2),
-      ⊎_elim (λ (long : length ok_line ≤ length p.1). inl (omega (arith, length-append p.0 p.1, ap length p.2))) (λ closed. inr closed) p.4,
-    )
+  abbrev count : ℕ
+  count = length r.done
 
--- what was said, and a part of what follows
-said_part : (old mid new : World) (f : ℕ) (said next rest whole : List ℕ) → said ++ (next ++ rest) ≡ whole → ClosingIsLeft rest f new → (IsTrue old.prints → mid.printed ≡ old.printed ++ said) → (IsTrue old.prints → IsTrue mid.prints) → PrintsPart next mid new
-    → PrintsUntilClosed whole f old new
-said_part old mid new f said next rest whole is leaves before prints_on part = part_of old new f whole (λ prints.
-    let p = part (prints_on prints) in
-    let n = p.0 in
-    let joined : (said ++ take n next) ++ (drop n next ++ rest) ≡ whole = append_assoc said (take n next) (drop n next ++ rest)
-    ∙ ap (λ (t : List ℕ). said ++ t) (sym (append_assoc (take n next) (drop n next) rest) ∙ ap (λ (t : List ℕ). t ++ rest) (take-append-drop n next)) ∙ is in (
-      said ++ take n next,
-      drop n next ++ rest,
-      joined,
-      p.1 ∙ ap (λ (t : List ℕ). t ++ take n next) (before prints) ∙ append_assoc old.printed said (take n next),
-      ⊎_elim (λ (long : length ok_line ≤ length rest). inl (omega (arith, length-append (drop n next) rest))) (λ closed. inr closed) leaves,
-    ))
+  -- the orders that were carried out, and with the next one
+  taken_here : take count (until_end all) ≡ r.done
+  taken_here = ap (take count) r.parts ∙ take-append_seam r.done left_orders
 
--- the next line was not begun
-pub begun_stay : {old mid new : World} {image : Image} {f : ℕ} {lines : List (List ℕ)} {all : List Order} → RanSoFar old mid image f lines all → new.seen f ≡ mid.seen f → new.printed ≡ mid.printed → BegunLines old new f all
-begun_stay {old} {mid} {new} {image} {f} {lines} {all} l same silent = record {
-  spares = subst (Spares (old.seen f)) (sym same) l.keeps.spares;
-  reached = (l.count, reached l new (between_first _ _ (disk_of (new.seen f)) (ap disk_of same ∙ sym (disk_here l))) (λ prints. ([], printed_from (disk_of (mid.seen f)) l.orders, refl, silent ∙ sym (append-nil mid.printed), inl refl, inl (closing_last (disk_of (mid.seen f)) (take 1 l.orders)))));
-  printed = part_of old new f (printed_from (disk_of (old.seen f)) all) (λ prints. (l.said, printed_from (disk_of (mid.seen f)) l.orders, l.text, silent ∙ l.printed prints, inl (closing_last (disk_of (mid.seen f)) l.orders)));
-}
+  taken_next : take (count + 1) (until_end all) ≡ r.done ++ take 1 left_orders
+  taken_next = ap (take (count + 1)) r.parts ∙ take-append-add r.done left_orders 1
+
+  -- the disk after them
+  disk_here : carried_from (disk_of (old.seen f)) (take count (until_end all)) ≡ disk_of (now.seen f)
+  disk_here = ap (carried_from (disk_of (old.seen f))) taken_here ∙ sym r.disk
+
+  disk_next : carried_from (disk_of (old.seen f)) (take (count + 1) (until_end all)) ≡ carried_from (disk_of (now.seen f)) (take 1 left_orders)
+  disk_next = ap (carried_from (disk_of (old.seen f))) taken_next ∙ carried-append (disk_of (old.seen f)) r.done (take 1 left_orders) ∙ ap (λ (d : List ℕ). carried_from d (take 1 left_orders)) (sym r.disk)
+
+  -- what is printed for them
+  abbrev said : List ℕ
+  said = answers_from (disk_of (old.seen f)) r.done
+
+  said_here : answers_from (disk_of (old.seen f)) (take count (until_end all)) ≡ said
+  said_here = ap (answers_from (disk_of (old.seen f))) taken_here
+
+  said_next : answers_from (disk_of (old.seen f)) (take (count + 1) (until_end all)) ≡ said ++ answers_from (disk_of (now.seen f)) (take 1 left_orders)
+  said_next = ap (answers_from (disk_of (old.seen f))) taken_next ∙ answers-append (disk_of (old.seen f)) r.done (take 1 left_orders) ∙ ap (λ (d : List ℕ). said ++ answers_from d (take 1 left_orders)) (sym r.disk)
+
+  -- and what is left to print
+  abbrev pub left_text : List ℕ
+  left_text = answers_from (disk_of (now.seen f)) left_orders ++ end_line all
+
+  pub whole_text : said ++ left_text ≡ printed_from (disk_of (old.seen f)) all
+  unfolding printed_from
+  whole_text =
+      let start = disk_of (old.seen f) in
+      ap (λ (d : List ℕ). said ++ (answers_from d left_orders ++ end_line all)) r.disk ∙ sym (append_assoc said (answers_from (carried_from start r.done) left_orders) (end_line all))
+      ∙ ap (λ (t : List ℕ). t ++ end_line all) (sym (answers-append start r.done left_orders) ∙ ap (answers_from start) (sym r.parts))
+
+  -- Of what is left to print, this was printed: nothing before the next order was carried out, and no more than its answer and no
+  -- byte of the end's unless file f was closed.
+  pub record SaysNext (new : World) : Type 0 where
+    pub next : List ℕ
+    pub rest : List ℕ
+    pub is : next ++ rest ≡ left_text
+    pub printed : new.printed ≡ now.printed ++ next
+    pub first : (next ≡ []) ⊎ (disk_of (new.seen f) ≡ carried_from (disk_of (now.seen f)) (take 1 left_orders))
+    pub few : ((length next ≤ length (answers_from (disk_of (now.seen f)) (take 1 left_orders))) × (length (end_line all) ≤ length rest)) ⊎ IsClosed all f new
+
+  module _ {new : World} (prints : IsTrue old.prints) (s : SaysNext new) where
+    printed_far : new.printed ≡ old.printed ++ take (length (said ++ s.next)) (printed_from (disk_of (old.seen f)) all)
+    printed_far =
+        let joined : (said ++ s.next) ++ s.rest ≡ printed_from (disk_of (old.seen f)) all = append_assoc said s.next s.rest ∙ ap (λ (t : List ℕ). said ++ t) s.is ∙ whole_text in
+        s.printed ∙ ap (λ (t : List ℕ). t ++ s.next) (r.printed prints) ∙ append_assoc old.printed said s.next
+        ∙ ap (λ (t : List ℕ). old.printed ++ t) (sym (take-append_seam (said ++ s.next) s.rest) ∙ ap (take (length (said ++ s.next))) joined)
+
+    end_is_left : (length (said ++ s.next) + length (end_line all) ≤ length (printed_from (disk_of (old.seen f)) all)) ⊎ IsClosed all f new
+    end_is_left = elim s.few [
+      | inl few ↦ inl (
+          let whole = ap length whole_text in
+          let left = ap length s.is in
+          omega (arith, few.1, length-append said s.next, length-append said left_text, length-append s.next s.rest))
+      | inr closed ↦ inr closed
+    ]
+
+    said_far : (length (answers_from (disk_of (old.seen f)) (take count (until_end all))) ≤ length (said ++ s.next))
+        × ((length (said ++ s.next) ≡ length (answers_from (disk_of (old.seen f)) (take count (until_end all)))) ⊎ (disk_of (new.seen f) ≡ carried_from (disk_of (old.seen f)) (take (count + 1) (until_end all))))
+        × ((length (said ++ s.next) ≤ length (answers_from (disk_of (old.seen f)) (take (count + 1) (until_end all)))) ⊎ IsClosed all f new)
+    said_far =
+        let here = ap length said_here in
+        let long = length-append said s.next in (
+          omega arith,
+          elim s.first [ inl none ↦ inl (let empty = ap length none in omega arith) | inr done ↦ inr (done ∙ sym disk_next) ],
+          elim s.few [
+            | inl few ↦ inl (
+                let next = ap length said_next in
+                omega (arith, few.0, length-append said (answers_from (disk_of (now.seen f)) (take 1 left_orders))))
+            | inr closed ↦ inr closed
+          ],
+        )
+
+  -- the run stopped there
+  pub begun_lines : {new : World} → Spares (old.seen f) (new.seen f) → Between (disk_of (now.seen f)) (carried_from (disk_of (now.seen f)) (take 1 left_orders)) (disk_of (new.seen f)) → (IsTrue old.prints → SaysNext new) → BegunLines old new f all
+  begun_lines {new} spares between says = record {
+    spares = spares;
+    reached = (
+      count,
+      record {
+        disk = subst (λ (d : List ℕ). Between d (carried_from (disk_of (old.seen f)) (take (count + 1) (until_end all))) (disk_of (new.seen f))) (sym disk_here)
+            (subst (λ (d : List ℕ). Between (disk_of (now.seen f)) d (disk_of (new.seen f))) (sym disk_next) between);
+        printed = λ prints. let s = says prints in let far = said_far prints s in (length (said ++ s.next), printed_far prints s, far.0, far.1, far.2);
+      },
+    );
+    printed = λ prints. let s = says prints in (length (said ++ s.next), printed_far prints s, end_is_left prints s);
+  }
+
+  -- the next line was not begun
+  pub begun_stay : {new : World} → new.seen f ≡ now.seen f → new.printed ≡ now.printed → BegunLines old new f all
+  begun_stay {new} same silent = begun_lines (subst (Spares (old.seen f)) (sym same) r.keeps.spares) (between_first _ _ (disk_of (new.seen f)) (ap disk_of same)) (λ prints. record {
+    next = [];
+    rest = left_text;
+    is = refl;
+    printed = silent ∙ sym (append-nil now.printed);
+    first = inl refl;
+    few = inl (omega arith, omega (arith, length-append (answers_from (disk_of (now.seen f)) left_orders) (end_line all)));
+  })
 
 -- it was begun
-pub begun_on : {parts : Parts} {old mid new : World} {image : Image} {m f : ℕ} {lines rest : List (List ℕ)} {o : Order} {all : List Order} → IsLine lines rest o → o ≢ Quit → m ≡ f → IsTrue old.tells → Runs parts old mid
-    → RanSoFar old mid image f lines all → (IsTrue mid.tells → IsOpen image (mid.seen m) → Begun mid new m o) → BegunLines old new f all
-begun_on {parts} {old} {mid} {new} {image} {m} {f} {lines} {rest} {o} {all} line other same told run l begun =
-    let did : Begun mid new f o = subst (λ (k : ℕ). IsTrue mid.tells → IsOpen image (mid.seen k) → Begun mid new k o) same begun (subst IsTrue (sym run.tells) told) l.opened in
-    let first = first_order l.orders line l.says in
-    let more = first.0 in
+pub begun_on : {parts : Parts} {old mid new : World} {image : Image} {m f : ℕ} {texts rest : List (List ℕ)} {l : Line} {all : List Order} → IsLine texts rest l → GoesOn (order_of l) → m ≡ f → IsTrue old.tells → Runs parts old mid
+    → RanSoFar old mid image f texts all → (IsTrue mid.tells → IsOpen image (mid.seen m) → Begun mid new m (order_of l)) → BegunLines old new f all
+begun_on {parts} {old} {mid} {new} {image} {m} {f} {texts} {rest} {l} {all} line goes same told run r begun =
+    let o = order_of l in
+    let did : Begun mid new f o = subst (λ (k : ℕ). IsTrue mid.tells → IsOpen image (mid.seen k) → Begun mid new k o) same begun (subst IsTrue (sym run.tells) told) r.opened in
     let disk = disk_of (mid.seen f) in
-    record {
-      spares = spares_on l.keeps did.spares;
-      reached = (
-        l.count,
-        reached l new
-            (subst (λ (d : List ℕ). Between d (disk_from (disk_of (old.seen f)) (take (l.count + 1) all)) (disk_of (new.seen f))) (sym (disk_here l)) (subst (λ (d : List ℕ). Between disk d (disk_of (new.seen f))) (sym (disk_next l o more first.1 other)) did.disk))
-            (λ prints. let on = subst IsTrue (sym run.prints) prints in elim (did.first on) [
-              | inl silent ↦ ([], printed_from disk l.orders, refl, silent ∙ sym (append-nil mid.printed), inl refl, inl (closing_last disk (take 1 l.orders)))
-              | inr done ↦
-                  let p = did.printed on in
-                  let answer = printed_by disk o in
-                  let rest = printed_from (disk_by disk o) more in
-                  let joined : take p.0 answer ++ (drop p.0 answer ++ rest) ≡ printed_from disk l.orders = sym (append_assoc (take p.0 answer) (drop p.0 answer) rest) ∙ ap (λ (t : List ℕ). t ++ rest) (take-append-drop p.0 answer)
-                  ∙ sym (printed_on disk o more other) ∙ ap (printed_from disk) (sym first.1) in
-                  (take p.0 answer, drop p.0 answer ++ rest, joined, p.1, inr (done ∙ sym (disk_next l o more first.1 other)), inl (part_fits l o more first.1 other p.0))
-            ]),
-      );
-      printed = said_part old mid new f l.said (printed_by disk o) (printed_from (disk_by disk o) more) (printed_from (disk_of (old.seen f)) all)
-          (ap (λ (t : List ℕ). l.said ++ t) (sym (printed_on disk o more other)) ∙ ap (λ (os : List Order). l.said ++ printed_from disk os) (sym first.1) ∙ l.text)
-          (inl (closing_last (disk_by disk o) more)) l.printed (λ prints. subst IsTrue (sym run.prints) prints) did.printed;
-    }
+    let answer = printed_by disk o in
+    let after = answers_from (disk_by disk o) (until_end (map order_of (more line r))) in
+    let is = until_is line r goes in
+    let one : carried_from disk (take 1 (left_orders r)) ≡ disk_by disk o = ap (λ (os : List Order). carried_from disk (take 1 os)) is ∙ carried_one disk o in
+    let first : answers_from disk (take 1 (left_orders r)) ≡ answer = ap (λ (os : List Order). answers_from disk (take 1 os)) is ∙ answers_one disk o in
+    let whole : answer ++ (after ++ end_line all) ≡ left_text r = sym (append_assoc answer after (end_line all)) ∙ ap (λ (t : List ℕ). t ++ end_line all) (sym (answers_on disk o (until_end (map order_of (more line r)))) ∙ ap (answers_from disk) (sym is)) in
+    begun_lines r (spares_on r.keeps did.spares) (subst (λ (d : List ℕ). Between disk d (disk_of (new.seen f))) (sym one) did.disk) (λ prints. let on = subst IsTrue (sym run.prints) prints in elim (did.first on) [
+      | inl silent ↦ record { next = []; rest = left_text r; is = refl; printed = silent ∙ sym (append-nil mid.printed); first = inl refl; few = inl (omega arith, omega (arith, length-append (answers_from disk (left_orders r)) (end_line all))) }
+      | inr done ↦
+          let p = did.printed on in
+          record {
+            next = take p.0 answer;
+            rest = drop p.0 answer ++ (after ++ end_line all);
+            is = sym (append_assoc (take p.0 answer) (drop p.0 answer) (after ++ end_line all)) ∙ ap (λ (t : List ℕ). t ++ (after ++ end_line all)) (take-append-drop p.0 answer) ∙ whole;
+            printed = p.1;
+            first = inr (done ∙ sym one);
+            few = inl (
+              (let long = ap length first in omega (arith, length-take p.0 answer)),
+              omega (arith, length-append (drop p.0 answer) (after ++ end_line all), length-append after (end_line all)),
+            );
+          }
+    ])
 
 -- why a later call failed is why the run did
-pub needs_after : {parts : Parts} (old mid new : World) (stop : Stop) → Runs parts old mid → Needs mid new stop → Needs old new stop
+pub needs_after : {parts : Parts} (old mid new : World) (stop : reason.Stop) → Runs parts old mid → Needs mid new stop → Needs old new stop
 needs_after old mid new Memory run needs = tt
 needs_after old mid new Fault run needs = rose_after old.faults mid.faults new.faults run.faults needs
 
 -- ---- the end
 
--- the file was closed once no order was left, and then the last answer was to be printed
-pub record Closed (old mid synced new : World) (image : Image) (f : ℕ) (lines : List (List ℕ)) (all : List Order) : Type 0 where
-  pub sound : IsSound mid
+-- no order was left, the file was closed if the run closes it, and then the end's answer was to be printed
+pub record Ended (old mid new : World) (image : Image) (f : ℕ) (texts : List (List ℕ)) (all : List Order) : Type 0 where
   pub prints : mid.prints ≡ old.prints
-  pub so_far : RanSoFar old mid image f lines all
-  pub at_end : Ends so_far.orders
-  pub sync : Syncs f mid synced
-  pub done : HasSynced f mid synced
-  pub print : Runs only_text synced new
+  pub so_far : RanSoFar old mid image f texts all
+  pub none_left : until_end (map order_of so_far.left) ≡ []
+  pub same : new.seen f ≡ mid.seen f
+  pub closed : IsClosed all f new
 
-module _ {old mid synced new : World} {image : Image} {f : ℕ} {lines : List (List ℕ)} {all : List Order} (c : Closed old mid synced new image f lines all) where
-  closed_same : new.seen f ≡ mid.seen f
-  closed_same = text_same f c.print ∙ c.sync.seen
+module _ {old mid new : World} {image : Image} {f : ℕ} {texts : List (List ℕ)} {all : List Order} (e : Ended old mid new image f texts all) where
+  -- the end's answer is the whole of what is left to print
+  end_is_all : end_line all ≡ left_text e.so_far
+  end_is_all = ap (λ (t : List ℕ). t ++ end_line all) (sym (ap (answers_from (disk_of (mid.seen f))) e.none_left ∙ answers_none (disk_of (mid.seen f))))
 
-  -- it is still closed after the print
-  closed_end : EachNow new f (λ h. h ≡ new.seen f)
-  closed_end = subst (λ (file : List ℕ). EachNow new f (λ h. h ≡ file)) (sym closed_same) (now_spared f (λ h. h ≡ mid.seen f) c.print (λ none. none) (now_synced c.sound c.done))
-
-  -- the last answer is the whole of what is left to print
-  closed_text : c.so_far.said ++ ok_line ≡ printed_from (disk_of (old.seen f)) all
-  closed_text = ap (λ (t : List ℕ). c.so_far.said ++ t) (sym (printed_end (disk_of (mid.seen f)) c.so_far.orders c.at_end)) ∙ c.so_far.text
+  same_disk : carried_from (disk_of (mid.seen f)) (take 1 (left_orders e.so_far)) ≡ disk_of (mid.seen f)
+  same_disk = ap (λ (os : List Order). carried_from (disk_of (mid.seen f)) (take 1 os)) e.none_left ∙ carried_none (disk_of (mid.seen f))
 
   -- a part of it was printed
-  pub begun_end : PrintsPart ok_line synced new → BegunLines old new f all
-  begun_end part =
-      let l = c.so_far in
-      let printed = part_after new ok_line c.sync.run (λ none. none) part in
+  pub begun_end : PrintsPart (end_line all) mid new → BegunLines old new f all
+  begun_end part = begun_lines e.so_far (subst (Spares (old.seen f)) (sym e.same) e.so_far.keeps.spares) (between_first _ _ (disk_of (new.seen f)) (ap disk_of e.same)) (λ prints.
+      let p = part (subst IsTrue (sym e.prints) prints) in
       record {
-        spares = subst (Spares (old.seen f)) (sym closed_same) l.keeps.spares;
-        reached = (
-          l.count,
-          reached l new (between_first _ _ (disk_of (new.seen f)) (ap disk_of closed_same ∙ sym (disk_here l))) (λ prints.
-              let p = printed (subst IsTrue (sym c.prints) prints) in
-              (take p.0 ok_line, drop p.0 ok_line, take-append-drop p.0 ok_line ∙ sym (printed_end (disk_of (mid.seen f)) l.orders c.at_end), p.1, inr (ap disk_of closed_same ∙ sym (disk_last l c.at_end)), inr closed_end)),
-        );
-        printed = said_part old mid new f l.said ok_line [] (printed_from (disk_of (old.seen f)) all) (ap (λ (t : List ℕ). l.said ++ t) (append-nil ok_line) ∙ closed_text) (inr closed_end) l.printed (λ prints. subst IsTrue (sym c.prints) prints) printed;
-      }
+        next = take p.0 (end_line all);
+        rest = drop p.0 (end_line all);
+        is = take-append-drop p.0 (end_line all) ∙ end_is_all;
+        printed = p.1;
+        first = inr (ap disk_of e.same ∙ sym same_disk);
+        few = inr e.closed;
+      })
 
   -- all of it was
-  pub ran_end : (IsTrue synced.prints → new.printed ≡ synced.printed ++ ok_line) → RanLines old new f all
+  pub ran_end : (IsTrue mid.prints → new.printed ≡ mid.printed ++ end_line all) → RanLines old new f all
+  unfolding disk_from
   ran_end said =
-      let l = c.so_far in
+      let r = e.so_far in
+      let start = disk_of (old.seen f) in
+      let all_done : until_end all ≡ r.done = r.parts ∙ ap (λ (os : List Order). r.done ++ os) e.none_left ∙ append-nil r.done in
       record {
-        form = subst IsFirstForm (sym closed_same) l.opened.form;
-        disk = ap disk_of closed_same ∙ sym (disk_end (disk_of (mid.seen f)) l.orders c.at_end) ∙ l.disk;
-        keeps = subst (KeepsRest (old.seen f)) (sym closed_same) l.keeps;
-        printed = λ prints. said_after new ok_line c.sync.run (λ none. none) said (subst IsTrue (sym c.prints) prints) ∙ ap (λ (t : List ℕ). t ++ ok_line) (l.printed prints) ∙ append_assoc old.printed l.said ok_line
-            ∙ ap (λ (t : List ℕ). old.printed ++ t) closed_text;
-        closed = closed_end;
+        form = subst IsFirstForm (sym e.same) r.opened.form;
+        disk = ap disk_of e.same ∙ r.disk ∙ ap (carried_from start) (sym all_done);
+        keeps = subst (KeepsRest (old.seen f)) (sym e.same) r.keeps;
+        printed = λ prints. said (subst IsTrue (sym e.prints) prints) ∙ ap (λ (t : List ℕ). t ++ end_line all) (r.printed prints) ∙ append_assoc old.printed (answers_from start r.done) (end_line all)
+            ∙ ap (λ (t : List ℕ). old.printed ++ (answers_from start r.done ++ t)) end_is_all ∙ ap (λ (t : List ℕ). old.printed ++ t) (whole_text r);
+        closed = e.closed;
       }
+
+-- ---- its ends
+
+-- a line that stops leaves the file as it is
+pub stopped : {old mid new : World} {image : Image} {f : ℕ} {texts rest : List (List ℕ)} {l : Line} {all : List Order} → mid.prints ≡ old.prints → Runs only_text mid new → IsLine texts rest l → order_of l ≡ Stop → RanSoFar old mid image f texts all
+    → Ended old mid new image f texts all × (end_line all ≡ stopped_line)
+stopped {old} {mid} {new} {image} {f} {texts} {rest} {l} {all} prints print line is r =
+    let first : map order_of r.left ≡ Stop ∷ map order_of (more line r) = left_is line r ∙ ap (λ (o : Order). o ∷ map order_of (more line r)) is in
+    let open_end : closes all ≡ false = r.closing ∙ ap closes first in (
+      record { prints = prints; so_far = r; none_left = ap until_end first; same = text_same f print; closed = λ yes. absurd (let never : IsTrue false = subst IsTrue open_end yes in cc) },
+      rw open_end refl,
+    )
+
+-- they are none, or the first of them quits
+pub record ClosesHere (lines : List Line) : Type 0 where
+  pub none_left : until_end (map order_of lines) ≡ []
+  pub closing : closes (map order_of lines) ≡ true
+
+pub closes_empty : (lines : List Line) → lines ≡ [] → ClosesHere lines
+closes_empty lines e = record { none_left = ap (λ (ls : List Line). until_end (map order_of ls)) e; closing = ap (λ (ls : List Line). closes (map order_of ls)) e }
+
+pub closes_quit : {texts rest : List (List ℕ)} {l : Line} (lines : List Line) → IsLine texts rest l → order_of l ≡ Quit → Say texts lines → ClosesHere lines
+closes_quit lines line is says =
+    let first = first_line lines line says in
+    let orders : map order_of lines ≡ Quit ∷ map order_of first.0 = ap (map order_of) first.1 ∙ ap (λ (o : Order). o ∷ map order_of first.0) is in
+    record { none_left = ap until_end orders; closing = ap closes orders }
+
+-- where no line is left, or one that quits, the file is synced and then the answer to the closing is printed
+pub closed : {old mid synced new : World} {image : Image} {f : ℕ} {texts : List (List ℕ)} {all : List Order} → IsSound mid → mid.prints ≡ old.prints → Syncs f mid synced → HasSynced f mid synced → Runs only_text synced new
+    → (r : RanSoFar old mid image f texts all) → ClosesHere r.left → Ended old mid new image f texts all × (end_line all ≡ ok_line)
+closed {old} {mid} {synced} {new} {image} {f} {texts} {all} sound prints sync done print r here =
+    let same : new.seen f ≡ mid.seen f = text_same f print ∙ sync.seen in
+    let closing : closes all ≡ true = r.closing ∙ here.closing in (
+      record {
+        prints = prints;
+        so_far = r;
+        none_left = here.none_left;
+        same = same;
+        closed = λ closing. subst (λ (file : List ℕ). EachNow new f (λ h. h ≡ file)) (sym same) (now_spared f (λ h. h ≡ mid.seen f) print (λ none. none) (now_synced sound done));
+      },
+      rw closing refl,
+    )

@@ -5,7 +5,7 @@ use Rattle.qc_layout.specs.Disks.{Passes}
 use Rattle.qc_layout.specs.FirstForm.{IsFirstForm}
 use Rattle.qc_layout.proofs.Cited.{passes_from_start, standing_in_form, standing_by_format, first_cluster, first_alike}
 use Rattle.plain_model.specs.History.{now}
-use Rattle.plain_model.specs.Replay.{extended}
+use Rattle.qback_top.specs.Orders.{extended}
 use Rattle.qback_top.specs.Open.{Spares}
 use Rattle.qback_top.specs.Laws.{ReplayKeepsStanding}
 

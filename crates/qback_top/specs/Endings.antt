@@ -2,7 +2,7 @@
 use Rattle.std.specs.Prelude.{◌≡◌, ◌⊎◌, ℕ, List, [], ◌++◌, IsTrue, codes}
 use Rattle.std.specs.Fmt.{decimal}
 use Rattle.disk_model.specs.World.{World, Parts, only_text, Runs, IsGiven, IsNameless, PrintsPart, Rose}
-use Rattle.plain_model.specs.Script.{Order}
+use Rattle.script_model.specs.Lines.{Line}
 use Rattle.qback_top.specs.declared.words.Task.{Task}
 
 pub data Ending : Type 0 where
@@ -19,8 +19,8 @@ pub data Ending : Type 0 where
   Made : (task : Task) → Ending
   -- this text says what the file is
   Told : (text : List ℕ) → Ending
-  -- these orders are carried out on the image, the file of this number
-  Ran : (number : ℕ) (orders : List Order) → Ending
+  -- what these lines say is carried out on the image, the file of this number
+  Ran : (number : ℕ) (lines : List Line) → Ending
 
 abbrev pub status_of : Ending → ℕ
 status_of NoForm = 1
@@ -30,7 +30,7 @@ status_of (Refused name reason) = 2
 status_of (BadLine n) = 5
 status_of (Made task) = 0
 status_of (Told text) = 0
-status_of (Ran number orders) = 0
+status_of (Ran number lines) = 0
 
 -- the status line; what was done has none
 abbrev pub line_of : Ending → List ℕ
@@ -41,7 +41,7 @@ line_of (Refused name reason) = codes "file " ++ name ++ codes " " ++ reason ++ 
 line_of (BadLine n) = codes "line " ++ decimal n ++ codes "\n"
 line_of (Made task) = []
 line_of (Told text) = []
-line_of (Ran number orders) = []
+line_of (Ran number lines) = []
 
 -- ---- what a run may touch
 

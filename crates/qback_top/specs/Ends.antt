@@ -1,9 +1,10 @@
 -- How a run of the program ends, and what it leaves.
-use Rattle.std.specs.Prelude.{◌≡◌, ◌⊎◌, ℕ, List, codes}
+use Rattle.std.specs.Prelude.{◌≡◌, ◌⊎◌, ℕ, List, map, codes}
 use Rattle.disk_model.specs.World.{World, Runs, only_text, Rose}
 use Rattle.qback_top.specs.declared.words.Task.{Task}
 use Rattle.qback_top.specs.Words.{IsTask, HaveNoForm, IsReplay, IsInfo}
 use Rattle.qback_top.specs.Endings.{Ending, NoForm, Made, Told, Ran, status_of, line_of, looks, looks_and_says, works_on_name, MakesAlone, Says, LooksAndSays, LooksAndTells}
+use Rattle.qback_top.specs.Orders.{order_of}
 use Rattle.qback_top.specs.Replays.{ReplayDue, Replayed, StopsReplaying}
 use Rattle.qback_top.specs.Creations.{Makes, MakeDue, Created, StopsCreating}
 use Rattle.qback_top.specs.Infos.{InfoDue, StopsTelling}
@@ -17,7 +18,7 @@ IsDue words w NoForm = HaveNoForm words
 IsDue words w ending = CommandDue words w ending
 
 abbrev pub LeavesAsDue : Ending → World → World → Type 0
-LeavesAsDue (Ran number orders) old new = Replayed number orders old new
+LeavesAsDue (Ran number lines) old new = Replayed number (map order_of lines) old new
 LeavesAsDue (Made task) old new = (name : List ℕ) × (f : ℕ) × Created task name f old new
 LeavesAsDue (Told text) old new = LooksAndTells text old new
 LeavesAsDue ending old new = LooksAndSays (line_of ending) old new

@@ -4,9 +4,9 @@ use Rattle.disk_model.specs.World.{World}
 use Rattle.qc_layout.specs.declared.header.Part.{Part}
 use Rattle.qc_layout.specs.Disks.{Stands}
 use Rattle.qc_layout.specs.FirstForm.{IsTaken}
-use Rattle.plain_model.specs.History.{History, now}
-use Rattle.plain_model.specs.Replay.{printed_from, extended}
-use Rattle.plain_model.specs.Script.{Order}
+use Rattle.plain_model.specs.History.{History, now, StaysInside}
+use Rattle.script_model.specs.Lines.{Line}
+use Rattle.qback_top.specs.Orders.{Order, printed_from, disk_from, extended}
 use Rattle.qback_top.specs.declared.words.Task.{Task}
 use Rattle.qback_top.specs.Words.{IsTask}
 use Rattle.qback_top.specs.Endings.{Ending, NoForm, Exists, BadLine, Made, Told, Ran, status_of}
@@ -23,7 +23,7 @@ OneEnding = (words : List (List ℕ)) (w : World) (a b : Ending) → IsDue words
 
 -- something was done
 abbrev pub IsDone : Ending → Type 0
-IsDone ending = ((number : ℕ) × (orders : List Order) × (ending ≡ Ran number orders)) ⊎ ((task : Task) × (ending ≡ Made task)) ⊎ ((text : List ℕ) × (ending ≡ Told text))
+IsDone ending = ((number : ℕ) × (lines : List Line) × (ending ≡ Ran number lines)) ⊎ ((task : Task) × (ending ≡ Made task)) ⊎ ((text : List ℕ) × (ending ≡ Told text))
 
 -- each of the statuses 1, 5 and 8 belongs to one kind of end, and 0 to what was done
 abbrev pub StatusTellsEnding : Type 0
@@ -39,3 +39,11 @@ abbrev pub ReplayKeepsStanding : Type 0
 ReplayKeepsStanding = (part : Part) (number : ℕ) (orders : List Order) (old new : World) (h : History)
     → IsTaken (old.seen number) → Replayed number orders old new → Stands part (old.seen number) (now h)
     → (IsTrue old.prints → new.printed ≡ old.printed ++ printed_from (now h) orders) × Stands part (new.seen number) (now (extended h orders))
+
+-- the disk that a run leaves is that of the history that it extends
+abbrev pub DiskFollowsHistory : Type 0
+DiskFollowsHistory = (h : History) (orders : List Order) → now (extended h orders) ≡ disk_from (now h) orders
+
+-- writes that lie in the disk go on by writes that lie in it
+abbrev pub HistoryStaysInside : Type 0
+HistoryStaysInside = (h : History) (orders : List Order) → StaysInside h → StaysInside (extended h orders)

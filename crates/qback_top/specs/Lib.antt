@@ -10,5 +10,5 @@ pub mod Open
 pub mod Replays
 pub mod Shown
 pub mod Stops
-pub mod Text
+pub mod Orders
 pub mod Words

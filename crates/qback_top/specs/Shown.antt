@@ -1,7 +1,8 @@
 -- What the end of a run says of it.
-use Rattle.std.specs.Prelude.{◌≡◌, ◌⊎◌, ℕ, List, codes}
+use Rattle.std.specs.Prelude.{◌≡◌, ◌⊎◌, ℕ, List, map, codes}
 use Rattle.disk_model.specs.World.{World, Runs, Rose}
-use Rattle.plain_model.specs.Script.{Order}
+use Rattle.script_model.specs.Lines.{Line}
+use Rattle.qback_top.specs.Orders.{order_of}
 use Rattle.qback_top.specs.declared.end.End.{End}
 use Rattle.qback_top.specs.declared.end.End.TheVariants as ends
 use Rattle.qback_top.specs.declared.stop.Stop.TheVariants as stops
@@ -18,7 +19,7 @@ StopsInReplay words old new = Runs looks old new ⊎ StopsReplaying words old ne
 
 -- `replay` came to this end as was due
 abbrev pub ShowsReplay : List (List ℕ) → World → World → End → Type 0
-ShowsReplay words old new ends.Done = (number : ℕ) × (orders : List Order) × ReplayDue words old (Ran number orders) × Replayed number orders old new
+ShowsReplay words old new ends.Done = (number : ℕ) × (lines : List Line) × ReplayDue words old (Ran number lines) × Replayed number (map order_of lines) old new
 ShowsReplay words old new (ends.Missing name) = ReplayDue words old (Missing name.now) × Runs looks old new
 ShowsReplay words old new (ends.Refused name reason) = ReplayDue words old (Refused name.now reason.now) × Runs looks old new
 ShowsReplay words old new (ends.BadLine n) = ReplayDue words old (BadLine n) × Runs looks old new

@@ -1,7 +1,7 @@
 -- The words of the program, and the task that they say.
 use Rattle.std.specs.Prelude.{IsUtf8, ◌≡◌, ℕ, ◌<◌, ◌≤◌, List, [], ◌∷◌, length, codes, true, Option, Some, None, Ok}
 use Rattle.hex.specs.Hex.{decode_sized}
-use Rattle.plain_model.specs.Script.{IsNumber}
+use Rattle.script_model.specs.Words.{IsNumber}
 use Rattle.backup_file.specs.Layout.{is_form}
 use Rattle.qback_top.specs.declared.words.Task.{Task}
 use Rattle.qback_top.specs.declared.words.Task.TheVariants.{CreateSource, CreateTarget, Info, Replay}

@@ -1,6 +1,6 @@
 //! Laws of the definitions. Each function does nothing; its contract is the law.
 
-ghost use Rattle.qback_top.specs.Laws.{OneEnding, OneTask, ReplayKeepsStanding, StatusTellsEnding};
+ghost use Rattle.qback_top.specs.Laws.{DiskFollowsHistory, HistoryStaysInside, OneEnding, OneTask, ReplayKeepsStanding, StatusTellsEnding};
 
 /// The same words say at most one task.
 pub fn one_task()
@@ -21,4 +21,14 @@ pub fn status_tells_ending()
 /// What a replay promises of the one form of image it promises of the disk that such an image stands for by the format.
 pub fn replay_keeps_standing()
     ensures { ReplayKeepsStanding }
+{}
+
+/// The disk that a replay leaves is that of the history that it extends.
+pub fn disk_follows_history()
+    ensures { DiskFollowsHistory }
+{}
+
+/// A replay extends a history, whose writes lie in its disk, by writes that lie in its disk.
+pub fn history_stays_inside()
+    ensures { HistoryStaysInside }
 {}

@@ -13,6 +13,7 @@ mod answers;
 mod commands;
 mod creations;
 mod description;
+mod drive;
 mod end;
 mod image;
 mod infos;
@@ -20,9 +21,7 @@ pub mod laws;
 mod opening;
 mod replay;
 mod replays;
-mod script;
 mod stop;
-mod text;
 mod words;
 
 use disk_model::{Console, Depot};

@@ -12,9 +12,9 @@ ghost use Rattle.qback_top.specs.Shown.{ShowsReplay, StopsInReplay, NeedsRise, s
 use crate::end::End;
 use crate::opening::open_image;
 use crate::replay::run_lines;
-use crate::script::first_bad_line;
 use crate::stop::Stop;
 use disk_model::{Console, Depot, FileNo};
+use script_codec::first_bad_line;
 use std::alloc::Global;
 
 /// Looks the files up, and carries the script out.

@@ -7,9 +7,9 @@ ghost use Rattle.qback_top.specs.Words.{IsTask, AreTexts, HaveNoForm, IsName, Is
 ghost use Rattle.qback_top.specs.Forms.{said};
 ghost use Rattle.qback_top.specs.declared.words.WordsRefusal.TheVariants.{NoForm, Memory};
 
-use crate::text::number;
 use backup_file::valid_form;
 use hex::FromHex;
+use script_codec::number;
 use span_algebra::Name;
 use std::alloc::Global;
 

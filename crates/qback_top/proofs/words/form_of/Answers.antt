@@ -1,8 +1,8 @@
 use Rattle.std.proofs.Common.{◌≡◌, ◌<◌, ◌^◌, ℕ, true, false, sym, subst, arith, rules}
 use Rattle.std.specs.Prelude.{List, nat_lt}
 use Rattle.backup_file.specs.Layout.{is_form}
-use Rattle.plain_model.specs.Script.{IsNumber}
-use Rattle.plain_model.proofs.Words.{one_number}
+use Rattle.script_model.specs.Words.{IsNumber}
+use Rattle.script_model.proofs.Numbers.{one_number}
 use Rattle.qback_top.specs.Words.{SayForm}
 use Rattle.qback_top.proofs.words.form_of.Goals as goal
 
