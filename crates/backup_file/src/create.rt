@@ -10,15 +10,19 @@ use crate::contents::{source_bytes, target_bytes};
 use crate::making::put_file;
 use disk_model::{Depot, FileNo};
 use std::alloc::Global;
+use thiserror::Error;
 
 /// Why a file isn't made.
-#[derive(Clone, Copy, Debug, PartialEq, Eq)]
+#[derive(Clone, Copy, Debug, PartialEq, Eq, Error)]
 pub enum CreateRefusal {
     /// The name is there.
+    #[error("the file is there")]
     Exists,
     /// A call on the depot failed.
+    #[error("a call on the depot failed")]
     Failed,
     /// There was no memory.
+    #[error("out of memory")]
     Memory,
 }
 
