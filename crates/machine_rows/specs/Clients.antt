@@ -1,5 +1,5 @@
 -- What connections are sent: negotiations, requests and replies over NBD, and the monitor beside them.
-use Rattle.std.specs.Prelude.{◌≡◌, ℕ, List, [], ◌∷◌, ◌++◌, Bool, true, false, None, codes, map, length}
+use Rattle.std.specs.Prelude.{◌≡◌, ℕ, List, [], ◌∷◌, ◌++◌, Bool, true, false, None, replicate, codes, map, length}
 use Rattle.std.specs.List.{range_with_len}
 use Rattle.disk_model.specs.World.{Taking, Opened, Bytes, Idle}
 use Rattle.core_events.specs.Events.{Event, Guest, Monitor, Tick}
@@ -71,6 +71,12 @@ pub record Negotiations : Type 0 where
       ≡ greeting_hex ++ codes "0003e889045565a9000000058000000100000000"
   -- bits of the client's flags that aren't known
   pub other_flags : (run (export_v false []) (Opened 2 false ∷ Bytes 2 (flags 4) ∷ []) []).hung_up ≡ 2 ∷ []
+  -- an option that is longer than any may be ends the connection at its head
+  pub too_long : (run (export_v false []) (Opened 2 false ∷ Bytes 2 (flags 3 ++ codes "IHAVEOPT" ++ 0 ∷ 0 ∷ 0 ∷ 3 ∷ 2 ∷ 0 ∷ 0 ∷ 1 ∷ []) ∷ []) []).hung_up ≡ 2 ∷ []
+  -- one of 65,537 bytes is skipped, and the next is served
+  pub skipped : sent (run (export_v false [])
+      (Opened 2 false ∷ Bytes 2 (flags 3 ++ codes "IHAVEOPT" ++ 0 ∷ 0 ∷ 0 ∷ 3 ∷ 0 ∷ 1 ∷ 0 ∷ 1 ∷ (replicate 65537 7 ++ option 5 [])) ∷ []) [])
+      ≡ greeting_hex ++ codes "0003e889045565a9000000038000000900000000" ++ codes "0003e889045565a9000000058000000100000000"
   -- an unknown export by its old option
   pub unknown_name : (run (export_v false []) (Opened 2 false ∷ Bytes 2 (flags 3 ++ option 1 (codes "w")) ∷ []) []).hung_up ≡ 2 ∷ []
 

@@ -4,4 +4,4 @@ use Rattle.machine_rows.proofs.rows.negotiations.Goals as goal
 
 pub returns : goal.returns
 unfolding machine_computes
-returns c = record { listed = refl; unserved = refl; other_flags = refl; unknown_name = refl }
+returns c = record { listed = refl; unserved = refl; other_flags = refl; too_long = refl; skipped = refl; unknown_name = refl }
