@@ -23,3 +23,4 @@ pub mod Steps
 pub mod Settling
 pub mod Clients
 pub mod Spans
+pub mod Serving

@@ -1,6 +1,7 @@
 //! Tables of worked examples. Each function does nothing; its contract is the table.
 
 ghost use Rattle.machine_rows.specs.Clients.{Negotiations, StatusOverWire, RequestsOverWire, MonitorOverWire, ConnectionsEnd};
+ghost use Rattle.machine_rows.specs.Serving.{ClientsAreServedInTurn, IdleTakingsServeJobs, ClosingsAreTold};
 ghost use Rattle.machine_rows.specs.Spans.{SpansFollowTheirRules};
 ghost use Rattle.machine_rows.specs.Accepted.{DeepTextsAreRefused, IdsAreEchoed, MessagesAreCommands, MessagesEndWhereTheyClose};
 ghost use Rattle.machine_rows.specs.Backups.{FullBackupsCopyAll};
@@ -311,4 +312,19 @@ pub fn connections_end()
 /// Each change of a bitmap changes its span by its rule.
 pub fn spans_follow_their_rules()
     ensures { SpansFollowTheirRules }
+{}
+
+/// Clients are served as their bytes come, by the machine's own answers.
+pub fn clients_are_served_in_turn()
+    ensures { ClientsAreServedInTurn }
+{}
+
+/// A job runs while nothing comes.
+pub fn idle_takings_serve_jobs()
+    ensures { IdleTakingsServeJobs }
+{}
+
+/// A closing is told to the monitor that is there.
+pub fn closings_are_told()
+    ensures { ClosingsAreTold }
 {}
