@@ -2,3 +2,4 @@ pub mod Numbers
 pub mod Options
 pub mod Requests
 pub mod Sessions
+pub mod Laws

@@ -2,5 +2,7 @@
 //! asks, and the bytes of each answer (fixed newstyle, structured replies, the contexts `base:allocation` and
 //! `qemu:dirty-bitmap:NAME`).
 //!
-//! It runs nothing.
+//! It runs nothing. Each law stands as the contract of a function of [`laws`].
 #![tactic(auto)]
+
+pub mod laws;
