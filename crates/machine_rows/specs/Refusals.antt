@@ -136,6 +136,9 @@ pub record BackupsAreRefused : Type 0 where
   -- a target that can't be read, after the test whether it is busy
   pub unread : output_amid depot (at_event 2 (record no_trouble { hindrance = record { unread = λ name. true; memory = None } })) (alone (full "j0" "t0") ∷ alone (full "j1" "none") ∷ alone (full "j1" "none") ∷ script.Stop ∷ []) (fresh 16384 4096)
       ≡ printed (returned ∷ refused "DeviceFailed: none" ∷ refused "TargetMissing: none" ∷ codes "stopped" ∷ [])
+  -- and no call is made for a name that no file may have
+  pub never_opened : output_amid depot (at_event 1 (record no_trouble { hindrance = record { unread = λ name. true; memory = None } })) (alone (full "j0" "") ∷ script.Stop ∷ []) (fresh 16384 4096)
+      ≡ printed (refused "TargetMissing: " ∷ codes "stopped" ∷ [])
   pub busy_before_unread : output_amid depot (at_event 2 (record no_trouble { hindrance = record { unread = λ name. true; memory = None } })) (alone (full "j0" "t0") ∷ alone (full "j1" "t0") ∷ script.Stop ∷ []) (fresh 16384 4096)
       ≡ printed (returned ∷ refused "TargetBusy: t0" ∷ codes "stopped" ∷ [])
   -- names that no file may have

@@ -95,7 +95,7 @@ backup_tests held unread a m =
     ∷ option_and_then (λ name. unusable name m) a.bitmap
     ∷ option_map SourceBroken m.broken
     ∷ then_some (is_target_busy a.target m) (TargetBusy a.target)
-    ∷ then_some (unread a.target) (DeviceFailed a.target)
+    ∷ then_some (is_file_name a.target && unread a.target) (DeviceFailed a.target)
     ∷ target_refusal (size_of m) a.target (held a.target)
     ∷ []
 

@@ -13,6 +13,7 @@ returns c = record {
   device = refl;
   view_as_device = refl;
   unread = refl;
+  never_opened = refl;
   busy_before_unread = refl;
   longest_name = refl;
   longer_name = refl;
