@@ -1,0 +1,4 @@
+pub mod Calls
+pub mod File
+pub mod Names
+pub mod Pairs
