@@ -50,14 +50,14 @@ seen_left_named w name f sound told is = seen_left_there w f (sound.there name f
 -- what a crash at a moment may leave stays what it was
 pub left_on : {parts : Parts} {a b : World} {k : ℕ} {left : ℕ → Option (List ℕ)} → Runs parts a b → k ≤ a.now → IsLeftAt a k left → IsLeftAt b k left
 left_on {parts} {a} {b} {k} {left} run past is = record {
-  there = λ f file here. subst (λ (vs : List (List ℕ)). IsOutcome vs file) (sym (run.kept k f past)) (is.there f file here);
-  absent = λ f none. run.kept k f past ∙ is.absent f none;
+  there = λ f file here. subst (λ (vs : List (List ℕ)). IsOutcome vs file) (sym (run.goes.kept k f past)) (is.there f file here);
+  absent = λ f none. run.goes.kept k f past ∙ is.absent f none;
 }
 
 pub left_back : {parts : Parts} {a b : World} {k : ℕ} {left : ℕ → Option (List ℕ)} → Runs parts a b → k ≤ a.now → IsLeftAt b k left → IsLeftAt a k left
 left_back {parts} {a} {b} {k} {left} run past is = record {
-  there = λ f file here. subst (λ (vs : List (List ℕ)). IsOutcome vs file) (run.kept k f past) (is.there f file here);
-  absent = λ f none. sym (run.kept k f past) ∙ is.absent f none;
+  there = λ f file here. subst (λ (vs : List (List ℕ)). IsOutcome vs file) (run.goes.kept k f past) (is.there f file here);
+  absent = λ f none. sym (run.goes.kept k f past) ∙ is.absent f none;
 }
 
 pub left_kept : {parts : Parts} {a b : World} (k : ℕ) (left : ℕ → Option (List ℕ)) → Runs parts a b → k ≤ a.now → IsLeftAt a k left ↔ IsLeftAt b k left
@@ -81,6 +81,10 @@ left_since_sync {a} {b} {f} {k} P file each low high is here = elim (cases_lt k 
 pub left_there : {w : World} {k f : ℕ} {left : ℕ → Option (List ℕ)} → IsLeftAt w k left → 0 < length (w.past k f) → (left f ≡ None → ⊥)
 left_there {w} {k} {f} is some none = omega (arith, ap length (is.absent f none))
 
+-- so is one that was there when a run began, at each moment of the run
+pub left_lasts : {parts : Parts} {a b : World} {k f : ℕ} {left : ℕ → Option (List ℕ)} → Runs parts a b → a.now ≤ k → k ≤ b.now → IsLeftAt b k left → 0 < length (versions a f) → (left f ≡ None → ⊥)
+left_lasts {parts} {a} {b} {k} {f} run low high is some = left_there is (run.goes.lasts k f low high some)
+
 -- ---- a file that was made
 
 -- after a call of `make`, whatever it answered, each crash leaves the file empty
@@ -101,7 +105,7 @@ make_since {name} {f} {a} {b} call k low high c left = elim (cases_lt k b.now) [
 
 -- reads give it empty too
 pub make_holds : {name : List ℕ} {f : ℕ} {a b : World} → MayMake name f a b → Holds f (λ c. c ≡ []) (λ c. c ≡ []) b
-make_holds call = record { seen = λ told. call.empty (subst IsTrue call.run.tells told); each = make_now call }
+make_holds call = record { seen = λ told. call.empty (subst IsTrue call.run.goes.tells told); each = make_now call }
 
 -- where outcomes are told, a crash now may leave the file that was made
 pub made_left : {name : List ℕ} {f : ℕ} {a b : World} → IsSound b → HasMade name f a b → IsTrue a.outcomes → seen_left b f ≡ Some (b.seen f)
@@ -119,17 +123,17 @@ make_apart {name} {f} {a} other g call told is same = call.nameless told other (
 -- what each crash leaves of a file that has a name goes on over a call of `make`
 pub make_spares : {name : List ℕ} {f : ℕ} {a b : World} (other : List ℕ) (from g : ℕ) (P : List ℕ → Type 0) → IsSound b → MayMake name f a b → (IsTrue a.tells → a.found other ≡ Some g) → from ≤ a.now → EachSince a from g P → EachSince b from g P
 make_spares {name} {f} {a} {b} other from g P sound call is le each k low high c left =
-    let told : IsTrue a.tells = subst IsTrue call.run.tells (told_at b k g c sound left) in
+    let told : IsTrue a.tells = subst IsTrue call.run.goes.tells (told_at b k g c sound left) in
     since_over from g P call.run (make_apart other g call told (is told)) le each k low high c left
 
 pub make_spares_now : {name : List ℕ} {f : ℕ} {a b : World} (other : List ℕ) (g : ℕ) (P : List ℕ → Type 0) → IsSound b → MayMake name f a b → (IsTrue a.tells → a.found other ≡ Some g) → EachNow a g P → EachNow b g P
 make_spares_now {name} {f} {a} {b} other g P sound call is each c left =
-    let told : IsTrue a.tells = subst IsTrue call.run.tells (told_by b g c sound left) in
+    let told : IsTrue a.tells = subst IsTrue call.run.goes.tells (told_by b g c sound left) in
     now_spared g P call.run (make_apart other g call told (is told)) each c left
 
 -- what reads give of it stays
 pub make_seen : {name : List ℕ} {f : ℕ} {a b : World} (other : List ℕ) (g : ℕ) → MayMake name f a b → IsTrue a.tells → a.found other ≡ Some g → b.seen g ≡ a.seen g
-make_seen other g call told is = call.run.seen g (make_apart other g call told is)
+make_seen other g call told is = (call.run.files g (make_apart other g call told is)).seen
 
 -- the other names stay those of their files
 pub make_found : {name : List ℕ} {f : ℕ} {a b : World} (other : List ℕ) → MayMake name f a b → (other ≡ name → ⊥) → b.found other ≡ a.found other
@@ -154,7 +158,7 @@ make_keeps_now other g P sound (inr call) is each = make_spares_now other g P so
 
 -- reads of it give the same
 pub make_keeps_seen : {name : List ℕ} {a b : World} (other : List ℕ) (g : ℕ) → Runs nothing a b ⊎ ((f : ℕ) × MayMake name f a b) → IsTrue a.tells → a.found other ≡ Some g → b.seen g ≡ a.seen g
-make_keeps_seen other g (inl run) told is = run.seen g (λ none. none)
+make_keeps_seen other g (inl run) told is = (run.files g (λ none. none)).seen
 make_keeps_seen other g (inr call) told is = make_seen other g call.1 told is
 
 -- a number that was given stays so

@@ -1,15 +1,14 @@
 -- What a range of a file reads in what a crash leaves.
-use Rattle.std.proofs.Common.{max, ◌≡◌, ◌⊎◌, inl, inr, ⊎_elim, ℕ, ◌<◌, ◌/◌, ◌%◌, ◌+◌, ◌*◌, ◌≤◌, List, [], ◌∷◌, length, refl, sym, ◌∙◌, ap, subst, IsTrue, ◌^◌, arith}
+use Rattle.std.proofs.Common.{max, ◌≡◌, ◌⊎◌, inl, inr, ⊎_elim, ℕ, ◌<◌, ◌/◌, ◌%◌, ◌+◌, ◌*◌, ◌≤◌, List, [], ◌∷◌, length, refl, sym, ◌∙◌, ap, subst, IsTrue, arith}
 use Rattle.std.proofs.lemmas.Bool.{cases_lt}
-use Rattle.std.specs.Int.{from_be_bytes, to_be_bytes, w16, w32, w64}
-use Rattle.std.proofs.lemmas.Nat.{from_be_bytes-to_be_bytes_2, from_be_bytes-to_be_bytes_4, from_be_bytes-to_be_bytes_8}
-use Rattle.disk_model.specs.Files.{byte, reading, overlay, u16_at, u32_at, u64_at, SomeVersion, EachVersion, AgreesAt, IsOutcome, IsTorn, IsLatest, synced, after_sync, MayWrite, MaySync}
+use Rattle.std.specs.Int.{Width, byte_len}
+use Rattle.disk_model.specs.Files.{byte, reading, overlay, number_at, SomeVersion, EachVersion, AgreesAt, IsOutcome, IsTorn, IsLatest, synced, after_sync, MayWrite, MaySync}
 use Rattle.disk_model.specs.World.{World, versions, IsSound, Writes, HasWritten, Leaves, EachNow, Leads}
 use Rattle.disk_model.proofs.Bytes.{length-overlay, length-overlay_none, length-overlay_inside, length-reading, byte-reading, byte_past, is_reading}
 use Rattle.disk_model.proofs.Outcomes.{IsMixed, IsVersion, each_version, steady}
 use Rattle.disk_model.proofs.Moments.{write_leaves, write_keeps}
 use Rattle.disk_model.proofs.Leads.{write_leads}
-use Rattle.disk_model.proofs.Words.{reading_same, reading_either, reading-torn, reading-overlay_same, u16_as, u32_as, u64_as, u16_read, u32_read, u64_read, u16-torn, u32-torn, u64-torn}
+use Rattle.disk_model.proofs.Words.{reading_same, reading_either, reading-torn, reading-overlay_same, number_as, in_sector}
 
 -- ---- in some version
 
@@ -35,23 +34,6 @@ reading_of_version vs c k at n left low high inside =
     some_more (AgreesAt k c) (λ v. reading c at n ≡ reading v at n) vs
     (λ v agrees. reading_same c v at n (λ i from to. agrees i (omega arith) (omega arith) (omega arith)))
     (left.sectors k)
-
--- a number within a sector is in each outcome as in some version
-pub u16_of_version : (vs : List (List ℕ)) (c : List ℕ) (k at : ℕ) → IsOutcome vs c → 512 * k ≤ at → at + 2 ≤ 512 * k + 512 → at + 2 ≤ length c → SomeVersion (λ v. u16_at c at ≡ u16_at v at) vs
-u16_of_version vs c k at left low high inside =
-    some_more (λ v. reading c at 2 ≡ reading v at 2) (λ v. u16_at c at ≡ u16_at v at) vs (λ v same. u16_as c v at at same) (reading_of_version vs c k at 2 left low high inside)
-
-pub u32_of_version : (vs : List (List ℕ)) (c : List ℕ) (k at : ℕ) → IsOutcome vs c → 512 * k ≤ at → at + 4 ≤ 512 * k + 512 → at + 4 ≤ length c → SomeVersion (λ v. u32_at c at ≡ u32_at v at) vs
-u32_of_version vs c k at left low high inside =
-    some_more (λ v. reading c at 4 ≡ reading v at 4) (λ v. u32_at c at ≡ u32_at v at) vs (λ v same. u32_as c v at at same) (reading_of_version vs c k at 4 left low high inside)
-
-pub u64_of_version : (vs : List (List ℕ)) (c : List ℕ) (k at : ℕ) → IsOutcome vs c → 512 * k ≤ at → at + 8 ≤ 512 * k + 512 → at + 8 ≤ length c → SomeVersion (λ v. u64_at c at ≡ u64_at v at) vs
-u64_of_version vs c k at left low high inside =
-    some_more (λ v. reading c at 8 ≡ reading v at 8) (λ v. u64_at c at ≡ u64_at v at) vs (λ v same. u64_as c v at at same) (reading_of_version vs c k at 8 left low high inside)
-
--- on a whole number of eight bytes
-pub word_of_version : (vs : List (List ℕ)) (c : List ℕ) (at : ℕ) → IsOutcome vs c → at % 8 ≡ 0 → at + 8 ≤ length c → SomeVersion (λ v. u64_at c at ≡ u64_at v at) vs
-word_of_version vs c at left whole inside = u64_of_version vs c (at / 512) at left (omega arith) (omega arith) inside
 
 -- ---- in each version
 
@@ -123,12 +105,12 @@ mixed_range old latest new at n k mixed low high inside = ⊎_elim
     (λ (second : AgreesAt k new latest). inr (reading_same new latest at n (λ i from to. second i (omega arith) (omega arith) (omega arith))))
     (mixed k)
 
--- a number of eight bytes on a whole number of eight is that of the one or the other
-pub mixed_word : (old latest new : List ℕ) (at : ℕ) → IsMixed old latest new → at % 8 ≡ 0 → at + 8 ≤ length new → (u64_at new at ≡ u64_at old at) ⊎ (u64_at new at ≡ u64_at latest at)
-mixed_word old latest new at mixed whole inside = ⊎_elim
-    (λ (first : reading new at 8 ≡ reading old at 8). inl (u64_as new old at at first))
-    (λ (second : reading new at 8 ≡ reading latest at 8). inr (u64_as new latest at at second))
-    (mixed_range old latest new at 8 (at / 512) mixed (omega arith) (omega arith) inside)
+-- a number on a whole number of its bytes is that of the one or the other
+pub mixed_number : (w : Width) (old latest new : List ℕ) (at : ℕ) → IsMixed old latest new → at % byte_len w ≡ 0 → at + byte_len w ≤ length new → (number_at w new at ≡ number_at w old at) ⊎ (number_at w new at ≡ number_at w latest at)
+mixed_number w old latest new at mixed whole inside = ⊎_elim
+    (λ (first : reading new at (byte_len w) ≡ reading old at (byte_len w)). inl (number_as w new old at at first))
+    (λ (second : reading new at (byte_len w) ≡ reading latest at (byte_len w)). inr (number_as w new latest at at second))
+    (mixed_range old latest new at (byte_len w) (at / 512) mixed (omega arith) (in_sector w at whole) inside)
 
 -- a range that reads the same in both reads so
 pub mixed_same : (old latest new : List ℕ) (at n : ℕ) (read : List ℕ) → IsMixed old latest new → length old ≤ length new → reading old at n ≡ read → reading latest at n ≡ read → reading new at n ≡ read
@@ -165,30 +147,6 @@ reading_written {f} {place} {bytes} {a} {b} n done told all = ap (λ (c : List �
 pub reading_apart : {f place : ℕ} {bytes : List ℕ} {a b : World} (at n : ℕ) → Writes f place bytes a b → IsTrue a.tells → (at + n ≤ place) ⊎ (place + length bytes ≤ at) → reading (b.seen f) at n ≡ reading (a.seen f) at n
 reading_apart {f} {place} {bytes} {a} {b} at n call told apart = reading-torn place bytes (a.seen f) (b.seen f) at n (call.torn told) apart
 
--- a number of two bytes that was written is that number; apart from a write it is as before
-pub u16_written : {f place : ℕ} {bytes : List ℕ} {a b : World} (v : ℕ) → HasWritten f place bytes a b → IsTrue a.tells → bytes ≡ to_be_bytes w16 v → v < 2 ^ 16 → u16_at (b.seen f) place ≡ v
-u16_written {f} {place} {bytes} {a} {b} v done told is fits =
-    u16_read (b.seen f) bytes place (reading_written 2 done told (sym (ap length is))) ∙ ap (λ (bs : List ℕ). from_be_bytes w16 bs) is ∙ from_be_bytes-to_be_bytes_2 v fits
-
-pub u16_apart : {f place : ℕ} {bytes : List ℕ} {a b : World} (at : ℕ) → Writes f place bytes a b → IsTrue a.tells → (at + 2 ≤ place) ⊎ (place + length bytes ≤ at) → u16_at (b.seen f) at ≡ u16_at (a.seen f) at
-u16_apart {f} {place} {bytes} {a} {b} at call told apart = u16-torn place bytes (a.seen f) (b.seen f) at (call.torn told) apart
-
--- a number of four bytes that was written is that number; apart from a write it is as before
-pub u32_written : {f place : ℕ} {bytes : List ℕ} {a b : World} (v : ℕ) → HasWritten f place bytes a b → IsTrue a.tells → bytes ≡ to_be_bytes w32 v → v < 2 ^ 32 → u32_at (b.seen f) place ≡ v
-u32_written {f} {place} {bytes} {a} {b} v done told is fits =
-    u32_read (b.seen f) bytes place (reading_written 4 done told (sym (ap length is))) ∙ ap (λ (bs : List ℕ). from_be_bytes w32 bs) is ∙ from_be_bytes-to_be_bytes_4 v fits
-
-pub u32_apart : {f place : ℕ} {bytes : List ℕ} {a b : World} (at : ℕ) → Writes f place bytes a b → IsTrue a.tells → (at + 4 ≤ place) ⊎ (place + length bytes ≤ at) → u32_at (b.seen f) at ≡ u32_at (a.seen f) at
-u32_apart {f} {place} {bytes} {a} {b} at call told apart = u32-torn place bytes (a.seen f) (b.seen f) at (call.torn told) apart
-
--- a number of eight bytes that was written is that number; apart from a write it is as before
-pub u64_written : {f place : ℕ} {bytes : List ℕ} {a b : World} (v : ℕ) → HasWritten f place bytes a b → IsTrue a.tells → bytes ≡ to_be_bytes w64 v → v < 2 ^ 64 → u64_at (b.seen f) place ≡ v
-u64_written {f} {place} {bytes} {a} {b} v done told is fits =
-    u64_read (b.seen f) bytes place (reading_written 8 done told (sym (ap length is))) ∙ ap (λ (bs : List ℕ). from_be_bytes w64 bs) is ∙ from_be_bytes-to_be_bytes_8 v fits
-
-pub u64_apart : {f place : ℕ} {bytes : List ℕ} {a b : World} (at : ℕ) → Writes f place bytes a b → IsTrue a.tells → (at + 8 ≤ place) ⊎ (place + length bytes ≤ at) → u64_at (b.seen f) at ≡ u64_at (a.seen f) at
-u64_apart {f} {place} {bytes} {a} {b} at call told apart = u64-torn place bytes (a.seen f) (b.seen f) at (call.torn told) apart
-
 -- ---- in what each crash leaves
 
 -- a write elsewhere keeps what a range reads in what each crash leaves
@@ -196,21 +154,6 @@ pub range_spared : {f place : ℕ} {bytes : List ℕ} {a b : World} (at n : ℕ)
     → Leaves f (λ c. reading c at n ≡ read) (λ c. reading c at n ≡ read) (λ c. reading c at n ≡ read) a b
 range_spared {f} {place} {bytes} at n read sound call apart =
     write_keeps (λ c. reading c at n ≡ read) sound call (λ old new is torn. reading-torn place bytes old new at n torn apart ∙ is)
-
--- and a number of two bytes
-pub u16_spared : {f place : ℕ} {bytes : List ℕ} {a b : World} (at v : ℕ) → IsSound a → Writes f place bytes a b → (at + 2 ≤ place) ⊎ (place + length bytes ≤ at)
-    → Leaves f (λ c. u16_at c at ≡ v) (λ c. u16_at c at ≡ v) (λ c. u16_at c at ≡ v) a b
-u16_spared {f} {place} {bytes} at v sound call apart = write_keeps (λ c. u16_at c at ≡ v) sound call (λ old new is torn. u16-torn place bytes old new at torn apart ∙ is)
-
--- and one of four bytes
-pub u32_spared : {f place : ℕ} {bytes : List ℕ} {a b : World} (at v : ℕ) → IsSound a → Writes f place bytes a b → (at + 4 ≤ place) ⊎ (place + length bytes ≤ at)
-    → Leaves f (λ c. u32_at c at ≡ v) (λ c. u32_at c at ≡ v) (λ c. u32_at c at ≡ v) a b
-u32_spared {f} {place} {bytes} at v sound call apart = write_keeps (λ c. u32_at c at ≡ v) sound call (λ old new is torn. u32-torn place bytes old new at torn apart ∙ is)
-
--- and one of eight bytes
-pub u64_spared : {f place : ℕ} {bytes : List ℕ} {a b : World} (at v : ℕ) → IsSound a → Writes f place bytes a b → (at + 8 ≤ place) ⊎ (place + length bytes ≤ at)
-    → Leaves f (λ c. u64_at c at ≡ v) (λ c. u64_at c at ≡ v) (λ c. u64_at c at ≡ v) a b
-u64_spared {f} {place} {bytes} at v sound call apart = write_keeps (λ c. u64_at c at ≡ v) sound call (λ old new is torn. u64-torn place bytes old new at torn apart ∙ is)
 
 -- a write elsewhere keeps what a range reads, in reads and crashes alike
 pub range_spared_leads : {f place : ℕ} {bytes : List ℕ} {a b : World} (at n : ℕ) (read : List ℕ) → IsSound a → IsSound b → Writes f place bytes a b → (at + n ≤ place) ⊎ (place + length bytes ≤ at)
