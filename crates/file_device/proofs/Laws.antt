@@ -1,22 +1,28 @@
 -- How runs of calls on one file go on.
-use Rattle.std.proofs.Common.{◌≡◌, ◌⊎◌, inl, inr, ⊎_elim, ℕ, ◌+◌, ◌*◌, ◌≤◌, List, length, IsTrue, Result, Ok, Err, OnOk, OnErr, IfOk, IsErr, sym, ◌∙◌, subst}
+use Rattle.std.proofs.Common.{◌≡◌, inl, inr, ℕ, ◌+◌, ◌*◌, ◌≤◌, List, length, IsTrue, Result, Ok, Err, OnOk, OnErr, IfOk, IsErr, refl, sym, ◌∙◌, subst}
 use Rattle.std.proofs.lemmas.Result.{on_err_weaker, on_ok_weaker, IfOk-weaker, IfOk-from_err}
 use Rattle.disk_model.specs.Files.{IsOutcome, IsTorn, overlay}
-use Rattle.disk_model.specs.World.{World, versions, Parts, Runs, reads_of, writes_of, only_file, Writes, HasWritten, HasSynced, ReadCause, WriteCause, Rose, Holds, Leads, FileFailed, IsQuiet}
-use Rattle.disk_model.proofs.Laws.{run_on, stay, since_now, run_more, reads_within_file, writes_within_file, since_on, since_spared, spared, rose_after, write_leads, sector_leads, sync_leads, synced_leads, IsMixed}
+use Rattle.disk_model.specs.World.{World, versions, Parts, Runs, reads_of, writes_of, only_file, Writes, HasWritten, Syncs, HasSynced, ReadCause, WriteCause, Rose, Holds, Leads, FileFailed, IsQuiet}
+use Rattle.disk_model.proofs.Laws.{run_on, stay, since_now, run_more, reads_within_file, writes_within_file, since_on, since_spared, spared, read_cause_after, write_cause_after, file_failed_after, write_leads, sector_leads, sync_leads, synced_leads, IsMixed}
 use Rattle.file_device.specs.File.{File, file_of, Gives, Has, Is}
 use Rattle.file_device.specs.Calls.{Calls, Looks, Puts, Goes, Wrote, Synced}
 
 -- ---- a file of a depot
 
+same_parts : (f : ℕ) (a b : World) → b.tells ≡ a.tells → b.seen f ≡ a.seen f → versions b f ≡ versions a f → file_of b f ≡ file_of a f
+unfolding file_of
+same_parts f a b tells seen past = cc
+
 -- a run that spares it leaves it the same
 pub same_file : {parts : Parts} {a b : World} (f : ℕ) → Runs parts a b → (parts.files f → ⊥) → file_of b f ≡ file_of a f
-unfolding file_of
-same_file {parts} {a} {b} f run none =
-    let t = run.goes.tells in
-    let s = (run.files f none).seen in
-    let v : versions b f ≡ versions a f = spared f run none in
-    cc
+same_file f run none = same_parts f _ _ run.goes.tells (run.files f none).seen (spared f run none)
+
+-- so does a sync that changes nothing that a crash may leave
+pub same_sync : {T E : Type 0} {f : ℕ} {a b : World} (result : Result T E) → Syncs f a b → OnErr result (versions b f ≡ versions a f) → OnErr result (file_of b f ≡ file_of a f)
+same_sync {T} {E} {f} {a} {b} result call = on_err_weaker result same
+  where
+    same : versions b f ≡ versions a f → file_of b f ≡ file_of a f
+    same kept = same_parts f a b call.run.goes.tells call.seen kept
 
 -- what reads give, as a depot's clauses say it
 pub gives : (w : World) (f : ℕ) (X : List ℕ → Type 0) → (IsTrue w.tells → X (w.seen f)) → Gives (file_of w f) X
@@ -35,6 +41,19 @@ has holds = record { seen = holds.seen; each = holds.each }
 pub holds_of : {w : World} {f : ℕ} {S P : List ℕ → Type 0} → Has S P (file_of w f) → Holds f S P w
 unfolding file_of
 holds_of is = record { seen = is.seen; each = is.each }
+
+-- ---- no count rose
+
+pub quiet_stay : (w : World) → IsQuiet w w
+quiet_stay w = record { shared = refl; reads = λ f. refl; writes = λ f. refl; prints = refl }
+
+pub quiet_on : {a b c : World} → IsQuiet a b → IsQuiet b c → IsQuiet a c
+quiet_on first second = record {
+  shared = second.shared ∙ first.shared;
+  reads = λ f. second.reads f ∙ first.reads f;
+  writes = λ f. second.writes f ∙ first.writes f;
+  prints = second.prints ∙ first.prints;
+}
 
 -- ---- calls on it
 
@@ -55,7 +74,7 @@ calls_err {T} {E} {U} {F} {f} {a} {b} {error} {result} failed first = record { r
     by_result (Err other) fails = fails
 
     by_error : (r : Result T E) → IsErr r → OnOk r (IsQuiet a b)
-    by_error (Ok value) none = absurd none
+    by_error (Ok value) none = absurd (cc)
     by_error (Err other) is = tt
 
 -- no call at all

@@ -1,35 +1,32 @@
 -- Calls that make a file.
-use Rattle.std.specs.Prelude.{◌≡◌, ◌⊎◌, ℕ, List, [], IsTrue, IsSome, Some, None}
+use Rattle.std.specs.Prelude.{◌≡◌, ℕ, List, [], IsTrue, IsSome, Some, None}
 use Rattle.disk_model.specs.declared.depot.Made.{Made}
 use Rattle.disk_model.specs.declared.depot.Made.TheVariants.{New, Exists}
-use Rattle.disk_model.specs.World.{World, Runs, nothing, making, IsGiven, IsNameless, EachSince, IsQuiet, Rose}
+use Rattle.disk_model.specs.World.{World, Runs, nothing, making, IsGiven, IsNameless, IsQuiet, Rose}
 use Rattle.file_device.specs.File.{file_of, Is}
 
--- The file was made under this name, which wasn't there, by calls of which none failed: reads give it with P, and so does each crash now;
--- each crash since the start that leaves it at all leaves it with R. Nothing else was touched.
-pub record HasCreated (R P : List ℕ → Type 0) (name : List ℕ) (f : ℕ) (old new : World) : Type 0 where
+-- The file was made under this name, which wasn't there, and no call failed: reads give it with P, and so does each crash. Nothing else was touched.
+pub record HasCreated (P : List ℕ → Type 0) (name : List ℕ) (f : ℕ) (old new : World) : Type 0 where
   pub run : Runs (making name f) old new
   pub fresh : IsTrue old.tells → IsNameless old f
   pub given : IsGiven f name new
   pub was_free : IsTrue old.tells → old.found name ≡ None
   pub found : IsTrue old.tells → new.found name ≡ Some f
-  pub since : EachSince new old.now f R
   pub holds : Is P (file_of new f)
   pub quiet : IsQuiet old new
 
--- Calls that made a file of this name, perhaps in part, which wasn't that of any name before; each crash since that leaves it at all leaves it with R.
-pub record HasBegun (R : List ℕ → Type 0) (name : List ℕ) (f : ℕ) (old new : World) : Type 0 where
+-- Calls that made a file of this name, perhaps in part, which was that of no name before.
+pub record HasBegun (name : List ℕ) (f : ℕ) (old new : World) : Type 0 where
   pub run : Runs (making name f) old new
   pub fresh : IsTrue old.tells → IsNameless old f
-  pub was_free : IsTrue old.tells → old.found name ≡ None
-  pub since : EachSince new old.now f R
 
 -- what making an empty file answered
 abbrev pub IsMadeEmpty : Made → List ℕ → World → World → Type 0
-IsMadeEmpty (New file) name old new = HasCreated (λ c. c ≡ []) (λ c. c ≡ []) name file.0 old new
+IsMadeEmpty (New file) name old new = HasCreated (λ c. c ≡ []) name file.0 old new
 IsMadeEmpty Exists name old new = Runs nothing old new × (IsTrue old.tells → IsSome (old.found name)) × IsQuiet old new
 
--- Making a file failed: a count rose, and nothing was touched, or a file that was that of no name was begun, empty.
+-- Making a file failed: a count rose, and a file of the name may have been begun.
 pub record MakingFailed (name : List ℕ) (old new : World) : Type 0 where
   pub rose : Rose old.faults.shared new.faults.shared
-  pub begun : Runs nothing old new ⊎ ((f : ℕ) × HasBegun (λ c. c ≡ []) name f old new)
+  pub file : ℕ
+  pub begun : HasBegun name file old new

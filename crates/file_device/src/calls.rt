@@ -17,12 +17,7 @@ pub fn size<D: Depot>(depot: &mut D, file: FileNo) -> Result<u64, Failed>
 }
 
 /// Reads bytes from an offset on, and zeros past the file's end.
-pub fn read<D: Depot>(
-    depot: &mut D,
-    file: FileNo,
-    at: u64,
-    out: &mut [u8],
-) -> Result<(), Failed>
+pub fn read<D: Depot>(depot: &mut D, file: FileNo, at: u64, out: &mut [u8]) -> Result<(), Failed>
     requires given { file.0 < (D.world depot.old).given }
     requires end { at + length out.old ≤ 2 ^ 62 }
     ensures bytes { OnOk result (Gives (file_of (D.world depot.old) file.0) (λ c. out.new ≡ reading c at (length out.old))) }
@@ -44,12 +39,7 @@ pub fn word<D: Depot>(depot: &mut D, file: FileNo, at: u64) -> Result<u64, Faile
 }
 
 /// Writes bytes from an offset on.
-pub fn write<D: Depot>(
-    depot: &mut D,
-    file: FileNo,
-    at: u64,
-    bytes: &[u8],
-) -> Result<(), Failed>
+pub fn write<D: Depot>(depot: &mut D, file: FileNo, at: u64, bytes: &[u8]) -> Result<(), Failed>
     requires given { file.0 < (D.world depot.old).given }
     requires end { at + length bytes.now ≤ 2 ^ 62 }
     ensures wrote { Wrote file.0 at bytes.now (D.world depot.old) (D.world depot.new) result }

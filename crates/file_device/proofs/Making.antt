@@ -1,0 +1,84 @@
+-- How runs of calls that make a file go on.
+use Rattle.std.proofs.Common.{ℕ, List, IsTrue, Result, Ok, Err, MatchResult, OnOk, IfOk, IfErr, sym, ◌∙◌, subst}
+use Rattle.disk_model.specs.declared.depot.Made.{Made}
+use Rattle.disk_model.specs.declared.depot.Made.TheVariants.{New, Exists}
+use Rattle.disk_model.specs.World.{World, Runs, nothing, making, IsNameless, MayMake, IsMade, IsQuiet, FindCause}
+use Rattle.disk_model.proofs.Laws.{run_on, run_more, nothing_within, writes_within_making, given_on, make_holds}
+use Rattle.file_device.specs.File.{File, Is}
+use Rattle.file_device.specs.Calls.{Puts, Goes}
+use Rattle.file_device.specs.Names.{HasCreated, HasBegun, IsMadeEmpty, MakingFailed}
+use Rattle.file_device.proofs.Laws.{has, quiet_on}
+
+-- ---- the depot's call
+
+made_by : (made : Made) (name : List ℕ) (a b : World) → IsMade made name a b → IsQuiet a b → IsMadeEmpty made name a b
+made_by (New file) name a b is quiet = record {
+  run = is.call.run;
+  fresh = is.call.nameless;
+  given = is.given;
+  was_free = is.was_free;
+  found = is.is_found;
+  holds = has (make_holds is.call);
+  quiet = quiet;
+}
+made_by Exists name a b is quiet = (is.0, is.1, quiet)
+
+pub made_empty : {E : Type 0} (result : Result Made E) (name : List ℕ) (a b : World) → MatchResult result (λ made. IsMade made name a b) (λ _. (f : ℕ) × MayMake name f a b)
+    → OnOk result (IsQuiet a b) → IfOk result (λ made. IsMadeEmpty made name a b)
+made_empty (Ok made) name a b is quiet = made_by made name a b is quiet
+made_empty (Err error) name a b is quiet = tt
+
+pub making_failed : {E : Type 0} (result : Result Made E) (name : List ℕ) (a b : World) → MatchResult result (λ made. IsMade made name a b) (λ _. (f : ℕ) × MayMake name f a b)
+    → FindCause a b result → IfErr result (λ _. MakingFailed name a b)
+making_failed (Ok made) name a b is cause = tt
+making_failed (Err error) name a b is cause = record { rose = cause; file = is.0; begun = record { run = is.1.run; fresh = is.1.nameless } }
+
+-- ---- before it and after it
+
+-- a file that is nameless after a look for names was so before it
+nameless_before : {f : ℕ} {a b : World} → Runs nothing a b → (IsTrue b.tells → IsNameless b f) → IsTrue a.tells → IsNameless a f
+nameless_before look is told name found = is (subst IsTrue (sym look.goes.tells) told) name (look.found name (λ no. no) ∙ found)
+
+-- a look for names before it
+pub created_after : {P : List ℕ → Type 0} {name : List ℕ} {f : ℕ} {a b c : World} → Runs nothing a b → IsQuiet a b → HasCreated P name f b c → HasCreated P name f a c
+created_after {P} {name} {f} {a} {b} {c} look quiet is = record {
+  run = run_on (run_more (nothing_within (making name f)) look) is.run;
+  fresh = nameless_before look is.fresh;
+  given = is.given;
+  was_free = λ told. sym (look.found name (λ no. no)) ∙ is.was_free (subst IsTrue (sym look.goes.tells) told);
+  found = λ told. is.found (subst IsTrue (sym look.goes.tells) told);
+  holds = is.holds;
+  quiet = quiet_on quiet is.quiet;
+}
+
+pub begun_after : {name : List ℕ} {f : ℕ} {a b c : World} → Runs nothing a b → HasBegun name f b c → HasBegun name f a c
+begun_after {name} {f} look is = record { run = run_on (run_more (nothing_within (making name f)) look) is.run; fresh = nameless_before look is.fresh }
+
+-- writes and syncs of the new file after it, that ended well
+pub created_on : {T E : Type 0} {P Q : List ℕ → Type 0} {R : List ℕ → Type 0} {J : File → Type 0} {name : List ℕ} {f : ℕ} {a b c : World} {value : T}
+    → HasCreated P name f a b → Puts {T = T} {E = E} f b c (Ok value) → Goes {T = T} {E = E} f (Is P) R J (λ _. Is Q) b c (Ok value) → HasCreated Q name f a c
+created_on {T} {E} {P} {Q} {R} {J} {name} {f} {a} {b} {c} {value} is puts goes = record {
+  run = run_on is.run (run_more (writes_within_making name f) puts.writes);
+  fresh = is.fresh;
+  given = given_on puts.writes is.given;
+  was_free = is.was_free;
+  found = λ told. puts.writes.found name (λ no. no) ∙ is.found told;
+  holds = goes.done is.holds;
+  quiet = quiet_on is.quiet puts.calls.quiet;
+}
+
+-- and whatever they answered
+pub begun_on : {T E : Type 0} {P : List ℕ → Type 0} {name : List ℕ} {f : ℕ} {a b c : World} {result : Result T E} → HasCreated P name f a b → Puts f b c result → HasBegun name f a c
+begun_on {T} {E} {P} {name} {f} is puts = record { run = run_on is.run (run_more (writes_within_making name f) puts.writes); fresh = is.fresh }
+
+-- a file with P has what follows from it
+pub created_more : {P Q : List ℕ → Type 0} {name : List ℕ} {f : ℕ} {a b : World} → ((file : List ℕ) → P file → Q file) → HasCreated P name f a b → HasCreated Q name f a b
+created_more {P} {Q} more is = record {
+  run = is.run;
+  fresh = is.fresh;
+  given = is.given;
+  was_free = is.was_free;
+  found = is.found;
+  holds = record { seen = λ told. more _ (is.holds.seen told); each = λ file left. more file (is.holds.each file left) };
+  quiet = is.quiet;
+}
