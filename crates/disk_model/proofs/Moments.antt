@@ -1,9 +1,8 @@
 -- How a run of a depot's calls goes on.
-use Rattle.std.proofs.Common.{◌≡◌, ◌⊎◌, inl, inr, ⊎_elim, ℕ, ◌+◌, ◌^◌, ◌<◌, ◌≤◌, List, [], ◌∷◌, length, ◌*◌, IsTrue, Result, refl, sym, ◌∙◌, subst, ap, arith}
-use Rattle.std.proofs.lemmas.Result.{on_err_weaker}
+use Rattle.std.proofs.Common.{◌≡◌, ◌⊎◌, inl, inr, ⊎_elim, ℕ, ◌+◌, ◌<◌, ◌≤◌, List, [], ◌∷◌, length, ◌*◌, IsTrue, refl, sym, ◌∙◌, subst, ap, arith}
 use Rattle.std.proofs.lemmas.Bool.{cases_lt}
 use Rattle.disk_model.specs.Files.{IsOutcome, IsGrown, IsTorn, overlay, after_write, MayWrite, after_sync, MaySync, IsLatest, IsTold}
-use Rattle.disk_model.specs.World.{World, versions, Parts, nothing, reads_of, writes_of, only_file, only_text, file_and_text, making, Faults, Counts, GoesOn, SameFile, Runs, IsSpared, IsGiven, StepsWithin, StepsBefore, Writes, HasWritten, Syncs, HasSynced, Leaves, EachSince, EachNow, EachSinceSync, Rose, FindCause, ReadCause, WriteCause, PrintCause, FileFailed, IsSound}
+use Rattle.disk_model.specs.World.{World, versions, Parts, nothing, reads_of, writes_of, only_file, making, Faults, Counts, GoesOn, SameFile, Runs, IsSpared, IsGiven, StepsWithin, StepsBefore, Writes, Syncs, HasSynced, Leaves, EachSince, EachNow, EachSinceSync, Rose, FileFailed, IsSound}
 use Rattle.disk_model.proofs.Outcomes.{one_sector_write, before_write, whole_torn, untorn, settled, is_outcome, IsMixed}
 
 -- ---- what goes on
@@ -103,33 +102,9 @@ reads_within_file f = record { files = λ g none. absurd none; reads = λ g is. 
 pub writes_within_file : (f : ℕ) → Within (writes_of f) (only_file f)
 writes_within_file f = record { files = λ g is. is; reads = λ g none. absurd none; names = λ name none. absurd none; text = λ none. absurd none; wire = λ none. absurd none }
 
-pub file_within_both : (f : ℕ) → Within (only_file f) (file_and_text f)
-file_within_both f = record { files = λ g is. is; reads = λ g is. is; names = λ name none. absurd none; text = λ none. absurd none; wire = λ none. absurd none }
-
-pub text_within_both : (f : ℕ) → Within only_text (file_and_text f)
-text_within_both f = record { files = λ g none. absurd none; reads = λ g none. absurd none; names = λ name none. absurd none; text = λ is. is; wire = λ none. absurd none }
-
-pub reads_within_both : (f : ℕ) → Within (reads_of f) (file_and_text f)
-reads_within_both f = record { files = λ g none. absurd none; reads = λ g is. is; names = λ name none. absurd none; text = λ none. absurd none; wire = λ none. absurd none }
-
-pub writes_within_both : (f : ℕ) → Within (writes_of f) (file_and_text f)
-writes_within_both f = record { files = λ g is. is; reads = λ g none. absurd none; names = λ name none. absurd none; text = λ none. absurd none; wire = λ none. absurd none }
-
 -- a file that is made is written
 pub writes_within_making : (name : List ℕ) (f : ℕ) → Within (writes_of f) (making name f)
 writes_within_making name f = record { files = λ g is. is; reads = λ g none. absurd none; names = λ other none. absurd none; text = λ none. absurd none; wire = λ none. absurd none }
-
-pub within_same : (parts : Parts) → Within parts parts
-within_same parts = record { files = λ g is. is; reads = λ g is. is; names = λ name is. is; text = λ is. is; wire = λ is. is }
-
-pub within_on : {few parts more : Parts} → Within few parts → Within parts more → Within few more
-within_on first second = record {
-  files = λ g is. second.files g (first.files g is);
-  reads = λ g is. second.reads g (first.reads g is);
-  names = λ name is. second.names name (first.names name is);
-  text = λ is. second.text (first.text is);
-  wire = λ is. second.wire (first.wire is);
-}
 
 -- one run after the other, of other parts, within those that hold both
 pub run_both : {parts others more : Parts} {a b c : World} → Within parts more → Within others more → Runs parts a b → Runs others b c → Runs more a c
@@ -204,23 +179,12 @@ since_spared {parts} {a} {b} f P run none before k low high c left = before c (s
 pub since_over : {parts : Parts} {a b : World} (from f : ℕ) (P : List ℕ → Type 0) → Runs parts a b → (parts.files f → ⊥) → from ≤ a.now → EachSince a from f P → EachSince b from f P
 since_over {parts} {a} from f P run none le each = since_on from f P run each (since_spared f P run none (now_since a from f P le each))
 
--- from a later moment on
-pub since_later : (w : World) (from later f : ℕ) (P : List ℕ → Type 0) → from ≤ later → EachSince w from f P → EachSince w later f P
-since_later w from later f P le each k low high c left = each k (omega arith) high c left
-
 -- what follows from it
 pub since_more : (w : World) (from f : ℕ) (P Q : List ℕ → Type 0) → ((c : List ℕ) → P c → Q c) → EachSince w from f P → EachSince w from f Q
 since_more w from f P Q more each k low high c left = more c (each k low high c left)
 
 pub now_more : (w : World) (f : ℕ) (P Q : List ℕ → Type 0) → ((c : List ℕ) → P c → Q c) → EachNow w f P → EachNow w f Q
 now_more w f P Q more each c left = more c (each c left)
-
--- both
-pub since_both : (w : World) (from f : ℕ) (P Q : List ℕ → Type 0) → EachSince w from f P → EachSince w from f Q → EachSince w from f (λ c. P c × Q c)
-since_both w from f P Q first second k low high c left = (first k low high c left, second k low high c left)
-
-pub now_both : (w : World) (f : ℕ) (P Q : List ℕ → Type 0) → EachNow w f P → EachNow w f Q → EachNow w f (λ c. P c × Q c)
-now_both w f P Q first second c left = (first c left, second c left)
 
 -- ---- what a call leaves of its file
 
@@ -312,14 +276,6 @@ told_at d k f c sound left = by_cases (d.past k f) (sound.told k f) left
     by_cases [] told left = absurd (left.sectors 0)
     by_cases (v ∷ vs) told left = told
 
--- what a read gives is an outcome
-pub seen_of : (d : World) (f : ℕ) (c : List ℕ) (P : List ℕ → Type 0) → IsSound d → IsOutcome (versions d f) c → EachNow d f P → P (d.seen f)
-seen_of d f c P sound left each = by_cases (versions d f) (sound.latest f) (sound.grown d.now f) left each
-  where
-    by_cases : (vs : List (List ℕ)) → IsLatest (d.seen f) vs → IsGrown vs → IsOutcome vs c → ((e : List ℕ) → IsOutcome vs e → P e) → P (d.seen f)
-    by_cases [] told grown left each = absurd (left.sectors 0)
-    by_cases (v ∷ vs) told grown left each = subst P (sym told) (each v (is_outcome v vs grown))
-
 -- after a write that succeeded too
 pub wrote : (place : ℕ) (bytes : List ℕ) (vs ws : List (List ℕ)) → ws ≡ after_write place bytes vs → MayWrite place bytes vs ws
 wrote place bytes [] ws is = is
@@ -347,19 +303,6 @@ now_kept a b f P sound may each c left = by_cases (versions a f) (versions b f) 
 pub now_spared : {parts : Parts} {a b : World} (f : ℕ) (P : List ℕ → Type 0) → Runs parts a b → (parts.files f → ⊥) → EachNow a f P → EachNow b f P
 now_spared f P run none each c left = each c (subst (λ (vs : List (List ℕ)). IsOutcome vs c) (spared f run none) left)
 
--- ---- calls by what they leave
-
-pub write_leaves : {f place : ℕ} {bytes : List ℕ} {a b : World} (P R Q : List ℕ → Type 0) → IsSound a → Writes f place bytes a b
-    → ((c : List ℕ) → P c → R c) → ((c : List ℕ) → Q c → R c) → ((old new : List ℕ) → P old → IsTorn place bytes old new → Q new) → Leaves f P R Q a b
-write_leaves {f} {place} {bytes} {a} {b} P R Q sound call before after tears = record {
-  since = λ each. since_step a b f R call.steps (λ c left. before c (each c left)) (λ c left. after c (now_write place bytes a b f P Q sound call.may each tears c left));
-  after = λ each. now_write place bytes a b f P Q sound call.may each tears;
-}
-
--- a write that keeps what each crash leaves
-pub write_keeps : {f place : ℕ} {bytes : List ℕ} {a b : World} (P : List ℕ → Type 0) → IsSound a → Writes f place bytes a b → ((old new : List ℕ) → P old → IsTorn place bytes old new → P new) → Leaves f P P P a b
-write_keeps P sound call tears = write_leaves P P P sound call (λ c has. has) (λ c has. has) tears
-
 -- a write within a sector that lies in each of the files
 pub sector_leaves : {f place : ℕ} {bytes : List ℕ} {a b : World} (P R Q : List ℕ → Type 0) (k : ℕ) → IsSound a → Writes f place bytes a b → 512 * k ≤ place → place + length bytes ≤ 512 * k + 512
     → ((c : List ℕ) → P c → R c) → ((c : List ℕ) → Q c → R c) → ((old : List ℕ) → P old → (place + length bytes ≤ length old) × Q old × Q (overlay old place bytes)) → Leaves f P R Q a b
@@ -373,21 +316,6 @@ sync_keeps {f} {a} {b} P sound call = record {
   since = λ each. since_step a b f P (steps_within a b f call.steps) each (now_kept a b f P sound call.may each);
   after = λ each. now_kept a b f P sound call.may each;
 }
-
--- a run that spares the file
-pub spare_keeps : {parts : Parts} {a b : World} (f : ℕ) (P : List ℕ → Type 0) → Runs parts a b → (parts.files f → ⊥) → Leaves f P P P a b
-spare_keeps f P run none = record { since = λ each. since_spared f P run none each; after = λ each. now_spared f P run none each }
-
--- one after the other
-pub leave_on : {parts others : Parts} {f : ℕ} {P R Q S : List ℕ → Type 0} {a b c : World} → Runs parts a b → Runs others b c → Leaves f P R Q a b → Leaves f Q R S b c → Leaves f P R S a c
-leave_on {parts} {others} {f} {P} {R} {Q} {S} {a} {b} {c} run on first second = record {
-  since = λ each. since_on a.now f R on (first.since each) (second.since (first.after each));
-  after = λ each. second.after (first.after each);
-}
-
--- from what is known at the start
-pub leave_from : {f : ℕ} {O P R Q : List ℕ → Type 0} {a b : World} → Leaves f P R Q a b → (EachNow a f O → EachNow a f P) → Leaves f O R Q a b
-leave_from leaves known = record { since = λ each. leaves.since (known each); after = λ each. leaves.after (known each) }
 
 -- ---- from a sync on
 
@@ -424,24 +352,6 @@ sync_on {parts} {a} {b} {d} f P run first second = record {
   ];
 }
 
--- over a run that spares the file, at the end
-pub sync_spared : {parts others : Parts} {a b d : World} (f : ℕ) (P : List ℕ → Type 0) → Runs parts a b → Runs others b d → (others.files f → ⊥) → EachSinceSync a b f P → EachSinceSync a d f P
-sync_spared {parts} {others} {a} {b} {d} f P run on none first = elim (cases_lt b.now first.moment) [
-  | inr since ↦ sync_on f P on first (since_spared f P on none (first.since b.now since (omega arith)))
-  | inl not_yet ↦
-      let same : versions b f ≡ versions a f = first.before b.now run.goes.later not_yet (omega arith) in
-      record {
-        moment = d.now + 1;
-        from = omega (arith, run.goes.later, on.goes.later);
-        to = omega arith;
-        before = λ k low high to. elim (cases_lt b.now k) [
-          | inl after ↦ (on.files f none).moments k (omega arith) to ∙ same
-          | inr before ↦ on.goes.kept k f before ∙ first.before k low (omega arith) before
-        ];
-        since = λ k low high c left. absurd (omega arith);
-      }
-]
-
 -- at the start
 pub spared_sync : {parts others : Parts} {a b d : World} (f : ℕ) (P : List ℕ → Type 0) → Runs parts a b → Runs others b d → (parts.files f → ⊥) → EachSinceSync b d f P → EachSinceSync a d f P
 spared_sync {parts} {others} {a} {b} {d} f P run on none later = record {
@@ -453,16 +363,6 @@ spared_sync {parts} {others} {a} {b} {d} f P run on none later = record {
     | inr before ↦ on.goes.kept k f before ∙ (run.files f none).moments k low before
   ];
   since = later.since;
-}
-
--- and throughout
-pub spared_all : {parts : Parts} {a b : World} (f : ℕ) (P : List ℕ → Type 0) → Runs parts a b → (parts.files f → ⊥) → EachSinceSync a b f P
-spared_all {parts} {a} {b} f P run none = record {
-  moment = b.now + 1;
-  from = omega (arith, run.goes.later);
-  to = omega arith;
-  before = λ k low high to. (run.files f none).moments k low to;
-  since = λ k low high c left. absurd (omega arith);
 }
 
 -- what follows from it
@@ -482,47 +382,14 @@ since_sync {a} {b} {f} P Q before each k low high c left = elim (cases_lt k each
   | inr since ↦ inr (each.since k since high c left)
 ]
 
--- where an outcome is told after a write that succeeded, reads give what was written
-pub seen_written : {f place : ℕ} {bytes : List ℕ} {a b : World} → Runs (writes_of f) a b → IsSound b → HasWritten f place bytes a b → (c : List ℕ) → IsOutcome (versions b f) c → b.seen f ≡ overlay (a.seen f) place bytes
-seen_written {f} {place} {bytes} {a} {b} run sound done c left = done.seen (subst IsTrue run.goes.tells (told_by b f c sound left))
-
 -- ---- counts
 
 -- a count that rose has risen later too, and from earlier on
 pub rose_more : (a b c d : ℕ) → a ≤ b → Rose b c → c ≤ d → Rose a d
 rose_more a b c d low rose high = omega arith
 
-pub rose_before : (a b c : ℕ) → Rose a b → b ≤ c → Rose a c
-rose_before a b c rose high = omega arith
-
 pub rose_after : (a b c : ℕ) → a ≤ b → Rose b c → Rose a c
 rose_after a b c low rose = omega arith
-
--- one that stands where it stood, short of its end, didn't rise
-pub not_rose : (a : ℕ) → a + 1 < 2 ^ 64 → Rose a a → ⊥
-not_rose a short rose = omega arith
-
--- why a call failed holds over the run before it
-pub find_cause_after : {parts : Parts} {a b : World} (c : World) {T E : Type 0} (result : Result T E) → Runs parts a b → FindCause b c result → FindCause a c result
-find_cause_after {parts} {a} {b} c result run cause = on_err_weaker result (λ (rose : Rose b.faults.shared c.faults.shared). rose_after a.faults.shared b.faults.shared c.faults.shared run.goes.counts.shared rose) cause
-
-pub read_cause_after : {parts : Parts} {a b : World} (c : World) (f : ℕ) {T E : Type 0} (result : Result T E) → Runs parts a b → ReadCause b c f result → ReadCause a c f result
-read_cause_after {parts} {a} {b} c f result run cause =
-    on_err_weaker result
-    (λ (rose : Rose b.faults.shared c.faults.shared × Rose (b.faults.reads f) (c.faults.reads f)). (rose_after a.faults.shared b.faults.shared c.faults.shared run.goes.counts.shared rose.0, rose_after (a.faults.reads f) (b.faults.reads f) (c.faults.reads f) (run.goes.counts.reads f) rose.1))
-    cause
-
-pub write_cause_after : {parts : Parts} {a b : World} (c : World) (f : ℕ) {T E : Type 0} (result : Result T E) → Runs parts a b → WriteCause b c f result → WriteCause a c f result
-write_cause_after {parts} {a} {b} c f result run cause =
-    on_err_weaker result
-    (λ (rose : Rose b.faults.shared c.faults.shared × Rose (b.faults.writes f) (c.faults.writes f)). (rose_after a.faults.shared b.faults.shared c.faults.shared run.goes.counts.shared rose.0, rose_after (a.faults.writes f) (b.faults.writes f) (c.faults.writes f) (run.goes.counts.writes f) rose.1))
-    cause
-
-pub print_cause_after : {parts : Parts} {a b : World} (c : World) {T E : Type 0} (result : Result T E) → Runs parts a b → PrintCause b c result → PrintCause a c result
-print_cause_after {parts} {a} {b} c result run cause =
-    on_err_weaker result
-    (λ (rose : Rose b.faults.shared c.faults.shared × Rose b.faults.prints c.faults.prints). (rose_after a.faults.shared b.faults.shared c.faults.shared run.goes.counts.shared rose.0, rose_after a.faults.prints b.faults.prints c.faults.prints run.goes.counts.prints rose.1))
-    cause
 
 -- so does that a call on a file failed
 pub file_failed_after : {parts : Parts} {f : ℕ} {a b c : World} → Runs parts a b → FileFailed f b c → FileFailed f a c
