@@ -3,14 +3,14 @@
 -- bytes of a file, and what a range reads
 pub use Rattle.disk_model.proofs.Bytes.{byte-overlay_below, byte-overlay_in, byte-overlay_above, length-overlay, length-overlay_none, overlay_no_shorter, length-overlay_inside, same_file, byte_past, overlay_inside, overlay_beyond, length-reading, byte-reading, is_reading, overlay_empty}
 -- what a range of a file reads, and the numbers in it
-pub use Rattle.disk_model.proofs.Words.{reading_same, reading_inside, reading_past, reading_all, reading-reading, reading-overlay_other, reading-torn, reading-overlay_part, reading-overlay_same, reading-append, reading_2, reading_4, reading_8, reading_either, word_write, number_same, number_read, number_as, number-inside, number-past, number-reading, number-torn, number-overlay_other, number-overlay_part, number-overlay_same, FitsIn, number_back, length-to_be_bytes, number-overlay_number, number-append, u16_bytes, u32_bytes, u64_bytes, in_sector, number_either}
+pub use Rattle.disk_model.proofs.Words.{reading_same, reading_inside, reading_past, reading_all, reading-reading, reading-overlay_other, reading-torn, reading-overlay_part, reading-overlay_same, reading-append, reading_2, reading_4, reading_8, reading_either, word_write, number_same, number_read, number_as, number-past, number-reading, number-torn, number-overlay_part, number-overlay_same, FitsIn, number_back, length-to_be_bytes, number-overlay_number, number-append, u16_bytes, u32_bytes, u64_bytes, in_sector, number_either}
 -- what a crash may leave of a file
 pub use Rattle.disk_model.proofs.Outcomes.{IsVersion, Chosen, choose, some_version, each_version, longest, synced_shortest, one_sector, settled, is_outcome, steady, IsMixed, Before, before_write, whole_torn, untorn, torn_outside, torn_elsewhere, byte-overlay_outside, one_sector_write}
 -- what a range of a file reads in what a crash leaves
-pub use Rattle.disk_model.proofs.Ranges.{some_more, each_more, some_each, reading_of_version, synced_is_version, each_synced, steady_byte, reading_steady, IsUnmet, reading_unmet, unmet_synced, unmet_sync, unmet_write, mixed_byte, mixed_range, mixed_number, mixed_same, torn_same, torn_length, torn_no_longer, reading_written, reading_apart, range_spared, range_spared_leads, range_either, length_kept, now_no_longer}
+pub use Rattle.disk_model.proofs.Ranges.{some_more, each_more, some_each, reading_of_version, synced_is_version, each_synced, steady_byte, mixed_byte, mixed_range, mixed_number, torn_length, reading_written}
 -- how a run of calls goes on, and what each crash leaves over it
-pub use Rattle.disk_model.proofs.Moments.{stay, counts_on, go_on, same_on, run_on, Within, run_more, nothing_within, reads_within_file, writes_within_file, file_within_both, text_within_both, reads_within_both, writes_within_both, writes_within_making, within_same, within_on, run_both, below_on, given_on, spared, spares, since_now, now_since, since_on, since_step, steps_within, since_spared, since_over, since_later, since_more, now_more, since_both, now_both, now_write, now_mixed, now_sector_write, WasOr, sector_exact, told_by, told_at, seen_of, wrote, now_synced, now_kept, now_spared, write_leaves, write_keeps, sector_leaves, sync_keeps, spare_keeps, leave_on, leave_from, sync_failed, sync_done, sync_on, sync_spared, spared_sync, spared_all, sync_more, since_sync, seen_written, rose_more, rose_before, rose_after, not_rose, find_cause_after, read_cause_after, write_cause_after, print_cause_after, file_failed_after}
+pub use Rattle.disk_model.proofs.Moments.{stay, counts_on, go_on, same_on, run_on, Within, run_more, nothing_within, reads_within_file, writes_within_file, writes_within_making, run_both, below_on, given_on, spared, spares, since_now, now_since, since_on, since_step, steps_within, since_spared, since_over, since_more, now_more, now_write, now_mixed, now_sector_write, WasOr, sector_exact, told_by, told_at, wrote, now_synced, now_kept, now_spared, sector_leaves, sync_keeps, sync_failed, sync_done, sync_on, spared_sync, sync_more, since_sync, rose_more, rose_after, file_failed_after}
 -- what calls lead to, reads and crashes alike
-pub use Rattle.disk_model.proofs.Leads.{write_leads, sector_leads, sync_leads, synced_leads, synced_exact, synced_holds, spare_leads, lead_on, lead_more, lead_from, lead_both}
+pub use Rattle.disk_model.proofs.Leads.{write_leads, sector_leads, sync_leads, synced_leads, synced_exact, synced_holds, spare_leads, lead_on, lead_more, lead_from}
 -- all files that a crash leaves, and calls of `make`
-pub use Rattle.disk_model.proofs.Left.{left_of, seen_left, is_left_now, seen_left_there, seen_left_named, left_on, left_back, left_kept, left_has, left_has_now, left_since_sync, left_there, left_lasts, make_now, make_since, make_holds, made_left, make_apart, make_spares, make_spares_now, make_seen, make_found, make_called, make_keeps, make_keeps_now, make_keeps_seen, make_given}
+pub use Rattle.disk_model.proofs.Left.{left_of, seen_left, is_left_now, left_back, left_there, left_lasts}

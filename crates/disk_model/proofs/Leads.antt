@@ -106,20 +106,3 @@ lead_from {f} {S} {P} {R} {T} {Q} {a} {b} U V reads most leads = record { since 
   where
     from : Holds f U V a → Holds f S P a
     from holds = record { seen = λ told. reads _ (holds.seen told); each = λ c left. most c (holds.each c left) }
-
--- two things that are kept track of apart
-pub lead_both : {f : ℕ} {a b : World} (S P R T Q U V W X Y : List ℕ → Type 0) → Leads f S P R T Q a b → Leads f U V W X Y a b
-    → Leads f (λ c. S c × U c) (λ c. P c × V c) (λ c. R c × W c) (λ c. T c × X c) (λ c. Q c × Y c) a b
-lead_both {f} {a} {b} S P R T Q U V W X Y first second = record {
-  since = λ holds k low high c left. (first.since (one holds) k low high c left, second.since (other holds) k low high c left);
-  after = λ holds. record {
-    seen = λ told. ((first.after (one holds)).seen told, (second.after (other holds)).seen told);
-    each = λ c left. ((first.after (one holds)).each c left, (second.after (other holds)).each c left);
-  };
-}
-  where
-    one : Holds f (λ c. S c × U c) (λ c. P c × V c) a → Holds f S P a
-    one holds = record { seen = λ told. (holds.seen told).0; each = λ c left. (holds.each c left).0 }
-
-    other : Holds f (λ c. S c × U c) (λ c. P c × V c) a → Holds f U V a
-    other holds = record { seen = λ told. (holds.seen told).1; each = λ c left. (holds.each c left).1 }

@@ -134,10 +134,6 @@ pub number_as : (w : Width) (a b : List ℕ) (at place : ℕ) → reading a at (
 unfolding number_at
 number_as w a b at place is = ap (λ (bs : List ℕ). from_be_bytes w bs) is
 
--- within a file
-pub number-inside : (w : Width) (file : List ℕ) (at : ℕ) → at + byte_len w ≤ length file → number_at w file at ≡ from_be_bytes w (take (byte_len w) (drop at file))
-number-inside w file at inside = number_read w file (take (byte_len w) (drop at file)) at (reading_inside file at (byte_len w) inside)
-
 -- past its end
 pub number-past : (w : Width) (file : List ℕ) (at : ℕ) → length file ≤ at → number_at w file at ≡ 0
 number-past w file at past = number_read w file (replicate (byte_len w) 0) at (reading_past file at (byte_len w) past) ∙ zeros w
@@ -156,10 +152,6 @@ number-reading w file place n at inside = number_as w (reading file place n) fil
 -- apart from what a torn write wrote
 pub number-torn : (w : Width) (place : ℕ) (bytes old new : List ℕ) (at : ℕ) → IsTorn place bytes old new → (at + byte_len w ≤ place) ⊎ (place + length bytes ≤ at) → number_at w new at ≡ number_at w old at
 number-torn w place bytes old new at torn apart = number_as w new old at at (reading-torn place bytes old new at (byte_len w) torn apart)
-
--- apart from what a write wrote
-pub number-overlay_other : (w : Width) (old : List ℕ) (place : ℕ) (bytes : List ℕ) (at : ℕ) → (at + byte_len w ≤ place) ⊎ (place + length bytes ≤ at) → number_at w (overlay old place bytes) at ≡ number_at w old at
-number-overlay_other w old place bytes at apart = number_as w (overlay old place bytes) old at at (reading-overlay_other old place bytes at (byte_len w) apart)
 
 -- within what a write wrote
 pub number-overlay_part : (w : Width) (old : List ℕ) (place : ℕ) (bytes : List ℕ) (at : ℕ) → at + byte_len w ≤ length bytes → number_at w (overlay old place bytes) (place + at) ≡ number_at w bytes at
