@@ -1,10 +1,10 @@
 -- How runs of calls on one file go on.
-use Rattle.std.proofs.Common.{◌≡◌, inl, inr, ℕ, ◌+◌, ◌*◌, ◌≤◌, List, length, IsTrue, Result, Ok, Err, OnOk, OnErr, IfOk, IsErr, refl, sym, ◌∙◌, subst}
+use Rattle.std.proofs.Common.{◌≡◌, ◌⊎◌, inl, inr, ℕ, ◌+◌, ◌*◌, ◌≤◌, List, [], ◌∷◌, length, IsTrue, Result, Ok, Err, OnOk, OnErr, IfOk, IsErr, refl, sym, ap, ◌∙◌, subst}
 use Rattle.std.proofs.lemmas.Result.{on_err_weaker, on_ok_weaker, IfOk-weaker, IfOk-from_err}
-use Rattle.disk_model.specs.Files.{IsOutcome, IsTorn, overlay}
-use Rattle.disk_model.specs.World.{World, versions, Parts, Runs, reads_of, writes_of, only_file, Writes, HasWritten, Syncs, HasSynced, ReadCause, WriteCause, Rose, Holds, Leads, FileFailed, IsQuiet}
-use Rattle.disk_model.proofs.Laws.{run_on, stay, since_now, run_more, reads_within_file, writes_within_file, since_on, since_spared, spared, read_cause_after, write_cause_after, file_failed_after, write_leads, sector_leads, sync_leads, synced_leads, IsMixed}
-use Rattle.file_device.specs.File.{File, file_of, Gives, Has, Is}
+use Rattle.disk_model.specs.Files.{IsOutcome, IsTorn, IsLatest, after_sync, overlay}
+use Rattle.disk_model.specs.World.{World, versions, Parts, Runs, reads_of, writes_of, only_file, Writes, HasWritten, Syncs, HasSynced, ReadCause, WriteCause, Rose, Holds, Leads, EachSinceSync, FileFailed, IsQuiet}
+use Rattle.disk_model.proofs.Laws.{run_on, stay, since_now, run_more, reads_within_file, writes_within_file, since_on, since_spared, spared, rose_after, file_failed_after, write_leads, sector_leads, sync_leads, synced_leads, synced_holds, sync_failed, sync_done, sync_on, IsMixed}
+use Rattle.file_device.specs.File.{File, file_of, Gives, Has, Is, IsSettled}
 use Rattle.file_device.specs.Calls.{Calls, Looks, Puts, Goes, Wrote, Synced}
 
 -- ---- a file of a depot
@@ -85,6 +85,12 @@ calls_none f a value = record { run = stay (only_file f) a; cause = tt; quiet = 
 pub calls_ok : {T E U F : Type 0} {f : ℕ} {a b : World} {value : U} (other : T) → Calls {T = U} {E = F} f a b (Ok value) → Calls {T = T} {E = E} f a b (Ok other)
 calls_ok other first = record { run = first.run; cause = tt; quiet = first.quiet }
 
+-- why a call on it failed, with a run before it
+cause_after : {T E : Type 0} {parts : Parts} {a b : World} (c : World) (count : World → ℕ) (result : Result T E) → Runs parts a b → count a ≤ count b
+    → OnErr result (Rose b.faults.shared c.faults.shared × Rose (count b) (count c)) → OnErr result (Rose a.faults.shared c.faults.shared × Rose (count a) (count c))
+cause_after {T} {E} {parts} {a} {b} c count result run low =
+    on_err_weaker result (λ (rose : Rose b.faults.shared c.faults.shared × Rose (count b) (count c)). (rose_after a.faults.shared b.faults.shared c.faults.shared run.goes.counts.shared rose.0, rose_after (count a) (count b) (count c) low rose.1))
+
 -- ---- reads
 
 -- calls that read it, as the depot says them
@@ -105,7 +111,7 @@ pub looks_on : {T E U F : Type 0} {f : ℕ} {a b c : World} {value : U} {result 
 looks_on {T} {E} {U} {F} {f} {a} {b} {c} {value} {result} first second = record {
   calls = calls_on first.calls second.calls;
   reads = run_on first.reads second.reads;
-  cause = read_cause_after c f result first.reads second.cause;
+  cause = cause_after c (λ w. w.faults.reads f) result first.reads (first.reads.goes.counts.reads f) second.cause;
   same = second.same ∙ first.same;
 }
 
@@ -135,10 +141,23 @@ pub puts_on : {T E U F : Type 0} {f : ℕ} {a b c : World} {value : U} {result :
 puts_on {T} {E} {U} {F} {f} {a} {b} {c} {value} {result} first second = record {
   calls = calls_on first.calls second.calls;
   writes = run_on first.writes second.writes;
-  cause = write_cause_after c f result first.writes second.cause;
+  cause = cause_after c (λ w. w.faults.writes f) result first.writes (first.writes.goes.counts.writes f) second.cause;
 }
 
+-- a failure is handed on
+pub puts_err : {T E U F : Type 0} {f : ℕ} {a b : World} {error : F} {result : Result T E} → IsErr result → Puts {T = U} {E = F} f a b (Err error) → Puts f a b result
+puts_err {T} {E} {U} {F} {f} {a} {b} {error} {result} failed first = record { calls = calls_err failed first.calls; writes = first.writes; cause = by_result result failed first.cause }
+  where
+    by_result : (r : Result T E) → IsErr r → Rose a.faults.shared b.faults.shared × Rose (a.faults.writes f) (b.faults.writes f) → WriteCause a b f r
+    by_result (Ok value) none rose = absurd (cc)
+    by_result (Err other) is rose = rose
+
 -- ---- what it goes through
+
+-- a file that is the same has the same versions
+same_past : (f : ℕ) (a b : World) → file_of b f ≡ file_of a f → versions b f ≡ versions a f
+unfolding file_of
+same_past f a b same = ap (λ (file : File). file.past) same
 
 -- what each crash now leaves
 pub now_of : (R : List ℕ → Type 0) (f : ℕ) (w : World) → ((c : List ℕ) → IsOutcome (file_of w f).past c → R c) → (c : List ℕ) → IsOutcome (versions w f) c → R c
@@ -249,3 +268,48 @@ pub synced : {T E : Type 0} {f : ℕ} {a b : World} {result : Result T E} (S P R
     → Goes f (Has S P) R (Has S P) (λ _. Has S S) a b result
 synced {T} {E} {f} {a} {b} {result} S P R is before after =
     goes_leads S P R S P S S (sync_leads S P R is.sound is.call before) (on_ok_weaker result (λ (done : HasSynced f a b). (synced_leads S P R is.sound is.sound_on is.call done before after).after) is.done)
+
+-- what reads give after a write that ended well
+pub wrote_gives : {T E : Type 0} {f place : ℕ} {bytes : List ℕ} {a b : World} {value : T} → Wrote {T = T} {E = E} f place bytes a b (Ok value) → Gives (file_of b f) (λ c. c ≡ overlay (file_of a f).bytes place bytes)
+unfolding file_of
+wrote_gives is told = is.done.seen (subst IsTrue is.call.run.goes.tells told)
+
+-- a sync leaves what reads give
+pub sync_seen : {T E : Type 0} {f : ℕ} {a b : World} {result : Result T E} → Synced f a b result → (file_of b f).bytes ≡ (file_of a f).bytes
+unfolding file_of
+sync_seen is = is.call.seen
+
+-- one that ended well makes that last
+pub synced_is : {T E : Type 0} {f : ℕ} {a b : World} {value : T} (S : List ℕ → Type 0) → Synced {T = T} {E = E} f a b (Ok value) → Gives (file_of a f) S → Is S (file_of b f)
+synced_is {T} {E} {f} {a} {b} S is reads = has (synced_holds S is.sound is.sound_on is.call is.done (given a f S reads))
+
+synced_settled : {T E : Type 0} {f : ℕ} {a b : World} {value : T} → Synced {T = T} {E = E} f a b (Ok value) → IsSettled (file_of b f)
+unfolding file_of
+synced_settled {T} {E} {f} {a} {b} is = by_past (versions a f) (versions b f) is.done.versions (is.sound_on.latest f)
+  where
+    by_past : (vs ws : List (List ℕ)) → ws ≡ after_sync vs → IsLatest (b.seen f) ws → (ws ≡ []) ⊎ (ws ≡ b.seen f ∷ [])
+    by_past [] ws same latest = inl same
+    by_past (v ∷ vs) ws same latest = inr (same ∙ ap (λ (file : List ℕ). file ∷ []) (sym (subst (λ (us : List (List ℕ)). IsLatest (b.seen f) us) same latest)))
+
+pub settled_on : {T E : Type 0} {f : ℕ} {a b : World} (result : Result T E) → Synced f a b result → OnOk result (IsSettled (file_of b f))
+settled_on (Ok value) is = synced_settled is
+settled_on (Err error) is = tt
+
+-- ---- each crash from a sync on
+
+-- a sync that failed: a crash leaves what it might have left before
+pub since_failed : {T E : Type 0} {f : ℕ} {a b : World} {result : Result T E} (P : List ℕ → Type 0) → Synced f a b result → IsErr result → EachSinceSync a b f P
+since_failed {T} {E} {f} {a} {b} {result} P is failed = sync_failed P is.call (by_result result failed is.failed)
+  where
+    by_result : (r : Result T E) → IsErr r → OnErr r (file_of b f ≡ file_of a f) → versions b f ≡ versions a f
+    by_result (Ok value) none same = absurd (cc)
+    by_result (Err error) failed same = same_past f a b same
+
+-- one that ended well, where each crash now leaves P
+pub since_synced : {T E : Type 0} {f : ℕ} {a b : World} {result : Result T E} (P : List ℕ → Type 0) → Synced f a b result → ((c : List ℕ) → IsOutcome (file_of b f).past c → P c) → EachSinceSync a b f P
+since_synced {T} {E} {f} {a} {b} P is each = sync_done P is.call (now_of P f b each)
+
+-- and calls on the file after it
+pub since_sync_on : {T E : Type 0} {f : ℕ} {I J : File → Type 0} {P : List ℕ → Type 0} {K : T → File → Type 0} {parts : Parts} {a b c : World} {result : Result T E}
+    → EachSinceSync a b f P → Runs parts b c → Goes f I P J K b c result → I (file_of b f) → EachSinceSync a c f P
+since_sync_on {T} {E} {f} {I} {J} {P} {K} {parts} {a} {b} {c} first run goes is = sync_on f P run first (goes.since is)

@@ -1,15 +1,26 @@
 -- How runs of calls that make a file go on.
-use Rattle.std.proofs.Common.{ℕ, List, IsTrue, Result, Ok, Err, MatchResult, OnOk, IfOk, IfErr, sym, ◌∙◌, subst}
+use Rattle.std.proofs.Common.{◌≡◌, ⊎_elim, ℕ, List, [], ◌∷◌, IsTrue, Result, Ok, Err, MatchResult, OnOk, IfOk, IfErr, sym, ◌∙◌, subst}
 use Rattle.disk_model.specs.declared.depot.Made.{Made}
 use Rattle.disk_model.specs.declared.depot.Made.TheVariants.{New, Exists}
-use Rattle.disk_model.specs.World.{World, Runs, nothing, making, IsNameless, MayMake, IsMade, IsQuiet, FindCause}
-use Rattle.disk_model.proofs.Laws.{run_on, run_more, nothing_within, writes_within_making, given_on, make_holds}
+use Rattle.disk_model.specs.Files.{IsOutcome}
+use Rattle.disk_model.specs.World.{World, versions, Holds, EachNow, Runs, nothing, making, IsNameless, MayMake, IsMade, IsQuiet, FindCause}
+use Rattle.disk_model.proofs.Laws.{run_on, run_more, nothing_within, writes_within_making, given_on, settled}
 use Rattle.file_device.specs.File.{File, Is}
 use Rattle.file_device.specs.Calls.{Puts, Goes}
 use Rattle.file_device.specs.Names.{HasCreated, HasBegun, IsMadeEmpty, MakingFailed}
 use Rattle.file_device.proofs.Laws.{has, quiet_on}
 
 -- ---- the depot's call
+
+-- a file that was made, or begun, is empty in reads and in each crash
+made_holds : {name : List ℕ} {f : ℕ} {a b : World} → MayMake name f a b → Holds f (λ c. c ≡ []) (λ c. c ≡ []) b
+made_holds {name} {f} {a} {b} call = record { seen = λ told. call.empty (subst IsTrue call.run.goes.tells told); each = each }
+  where
+    each : EachNow b f (λ c. c ≡ [])
+    each c left = ⊎_elim
+        (λ (none : versions b f ≡ []). absurd ((subst (λ (vs : List (List ℕ)). IsOutcome vs c) none left).sectors 0))
+        (λ (made : versions b f ≡ [] ∷ []). settled [] c (subst (λ (vs : List (List ℕ)). IsOutcome vs c) made left))
+        call.versions
 
 made_by : (made : Made) (name : List ℕ) (a b : World) → IsMade made name a b → IsQuiet a b → IsMadeEmpty made name a b
 made_by (New file) name a b is quiet = record {
@@ -18,7 +29,7 @@ made_by (New file) name a b is quiet = record {
   given = is.given;
   was_free = is.was_free;
   found = is.is_found;
-  holds = has (make_holds is.call);
+  holds = has (made_holds is.call);
   quiet = quiet;
 }
 made_by Exists name a b is quiet = (is.0, is.1, quiet)

@@ -1,5 +1,5 @@
 -- One file of a depot, as contracts see it that speak of it alone.
-use Rattle.std.specs.Prelude.{ℕ, List, Bool, IsTrue}
+use Rattle.std.specs.Prelude.{◌≡◌, ◌⊎◌, ℕ, List, [], ◌∷◌, Bool, IsTrue}
 use Rattle.disk_model.specs.Files.{IsOutcome}
 use Rattle.disk_model.specs.World.{World, versions}
 
@@ -25,3 +25,7 @@ pub record Has (S P : List ℕ → Type 0) (file : File) : Type 0 where
 -- both with P
 abbrev pub Is : (List ℕ → Type 0) → File → Type 0
 Is P = Has P P
+
+-- nothing is left to be lost: a crash leaves what reads give, where that is told
+abbrev pub IsSettled : File → Type 0
+IsSettled file = (file.past ≡ []) ⊎ (file.past ≡ file.bytes ∷ [])

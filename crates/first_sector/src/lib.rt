@@ -1,14 +1,17 @@
 //! Another first sector, in the place of the one that is there.
 //!
-//! It shows what the contracts of a depot are for: a crash at any moment leaves the file with the old sector or with the
-//! new one, whole, and once the call is done with the new one.
+//! A crash at any moment leaves the file with the old sector or with the new one, whole, and once the call is done with
+//! the new one. A qcow2 header fits into that sector, so this is how an image's header changes.
 #![tactic(auto)]
 
-ghost use Rattle.std.specs.Prelude.{◌≡◌, ◌⊎◌, ◌<◌, ◌≤◌, length, IsTrue, OnOk};
-ghost use Rattle.disk_model.specs.Files.{overlay};
-ghost use Rattle.disk_model.specs.World.{Runs, writes_of, Holds, EachSinceSync, WriteCause};
+ghost use Rattle.std.specs.Prelude.{◌<◌, ◌≤◌, length, OnOk};
+ghost use Rattle.disk_model.specs.World.{EachSinceSync};
+ghost use Rattle.file_device.specs.File.{file_of, Gives, Is, IsSettled};
+ghost use Rattle.file_device.specs.Calls.{Puts};
+ghost use Rattle.first_sector.specs.Sectors.{New, OldOrNew};
 
 use disk_model::{Depot, Failed, FileNo};
+use file_device::{sync, write};
 
 /// Puts another sector in the place of a file's first.
 pub fn rewrite_first_sector<D: Depot>(
@@ -18,25 +21,21 @@ pub fn rewrite_first_sector<D: Depot>(
 ) -> Result<(), Failed>
     requires { file.0 < (D.world depot.old).given }
 
-    // At Ok reads give the file with the new sector, and each crash leaves that.
-    ensures done { OnOk result (Holds file.0
-        (λ c. c ≡ overlay ((D.world depot.old).seen file.0) 0 sector.now)
-        (λ c. c ≡ overlay ((D.world depot.old).seen file.0) 0 sector.now) (D.world depot.new)) }
+    // At Ok reads give the file with the new sector, so does each crash, and nothing is left to be lost.
+    ensures done { OnOk result (Is (New sector.now (file_of (D.world depot.old) file.0)) (file_of (D.world depot.new) file.0)) }
+    ensures settled { OnOk result (IsSettled (file_of (D.world depot.new) file.0)) }
 
     // Up to the first sync a crash leaves what it might have left before; from then on the file with the old sector or with the new one.
-    ensures crash { 512 ≤ length ((D.world depot.old).seen file.0) →
-        EachSinceSync (D.world depot.old) (D.world depot.new) file.0
-        (λ c. (c ≡ (D.world depot.old).seen file.0) ⊎ (c ≡ overlay ((D.world depot.old).seen file.0) 0 sector.now)) }
+    ensures crash { 512 ≤ length (file_of (D.world depot.old) file.0).bytes →
+        EachSinceSync (D.world depot.old) (D.world depot.new) file.0 (OldOrNew sector.now (file_of (D.world depot.old) file.0)) }
 
     // Whatever the call answers, reads give the one or the other.
-    ensures seen { 512 ≤ length ((D.world depot.old).seen file.0) →
-        IsTrue (D.world depot.old).tells →
-        ((D.world depot.new).seen file.0 ≡ (D.world depot.old).seen file.0) ⊎ ((D.world depot.new).seen file.0 ≡ overlay ((D.world depot.old).seen file.0) 0 sector.now) }
+    ensures seen { 512 ≤ length (file_of (D.world depot.old) file.0).bytes →
+        Gives (file_of (D.world depot.new) file.0) (OldOrNew sector.now (file_of (D.world depot.old) file.0)) }
 
-    ensures run { Runs (writes_of file.0) (D.world depot.old) (D.world depot.new) }
-    ensures cause { WriteCause (D.world depot.old) (D.world depot.new) file.0 result }
+    ensures puts { Puts file.0 (D.world depot.old) (D.world depot.new) result }
 {
-    depot.sync(file)?; // the old sectors
-    depot.write_at(file, 0, sector)?;
-    depot.sync(file) // the new sector
+    sync(depot, file)?; // the old sectors
+    write(depot, file, 0, sector)?;
+    sync(depot, file) // the new sector
 }
