@@ -25,19 +25,19 @@ module _ {name bytes : List ℕ} {f : ℕ} {a b c d : World} (look : Runs nothin
 
   -- the file was that of no name
   fresh : IsTrue a.tells → IsNameless a f
-  fresh told other found = made.call.nameless (subst IsTrue (sym look.tells) told) other (look.found other (λ no. no) ∙ found)
+  fresh told other found = made.call.nameless (subst IsTrue (sym look.goes.tells) told) other (look.found other (λ no. no) ∙ found)
 
   -- the write failed
-  pub write_refused : Rose c.faults d.faults → Refuses name a d Failed
-  write_refused rose = (inr (f, fresh, run_written), rose_after a.faults c.faults d.faults run_made.faults rose, λ told some. absurd (not_both (a.found name) (none told) some))
+  pub write_refused : Rose c.faults.shared d.faults.shared → Refuses name a d Failed
+  write_refused rose = (inr (f, fresh, run_written), rose_after a.faults.shared c.faults.shared d.faults.shared run_made.goes.counts.shared rose, λ told some. absurd (not_both (a.found name) (none told) some))
 
   module _ {e : World} (sync : Syncs f d e) where
     pub run_all : Runs (making name f) a e
     run_all = run_on run_written (run_more (writes_within_making name f) sync.run)
 
     -- the sync failed
-    pub sync_refused : Rose d.faults e.faults → Refuses name a e Failed
-    sync_refused rose = (inr (f, fresh, run_all), rose_after a.faults d.faults e.faults run_written.faults rose, λ told some. absurd (not_both (a.found name) (none told) some))
+    pub sync_refused : Rose d.faults.shared e.faults.shared → Refuses name a e Failed
+    sync_refused rose = (inr (f, fresh, run_all), rose_after a.faults.shared d.faults.shared e.faults.shared run_written.goes.counts.shared rose, λ told some. absurd (not_both (a.found name) (none told) some))
 
     -- all is done
     pub created : IsSound d → IsSound e → HasWritten f 0 bytes c d → HasSynced f d e → HasCreated (λ file. file ≡ bytes) name f a e
@@ -46,12 +46,12 @@ module _ {name bytes : List ℕ} {f : ℕ} {a b c d : World} (look : Runs nothin
       fresh = fresh;
       given = given_on sync.run (given_on write.run made.given);
       was_free = λ told. sym (none told);
-      found = λ told. sync.run.found name (λ no. no) ∙ write.run.found name (λ no. no) ∙ made.is_found (subst IsTrue (sym look.tells) told);
-      holds = synced_holds (λ file. file ≡ bytes) sound_d sound_e sync done (λ told. reads (subst IsTrue write.run.tells told));
+      found = λ told. sync.run.found name (λ no. no) ∙ write.run.found name (λ no. no) ∙ made.is_found (subst IsTrue (sym look.goes.tells) told);
+      holds = synced_holds (λ file. file ≡ bytes) sound_d sound_e sync done (λ told. reads (subst IsTrue write.run.goes.tells told));
     }
       where
         reads : IsTrue c.tells → d.seen f ≡ bytes
-        reads told = wrote.seen told ∙ ap (λ (old : List ℕ). overlay old 0 bytes) (made.call.empty (subst IsTrue made.call.run.tells told)) ∙ written_new bytes
+        reads told = wrote.seen told ∙ ap (λ (old : List ℕ). overlay old 0 bytes) (made.call.empty (subst IsTrue made.call.run.goes.tells told)) ∙ written_new bytes
 
 -- a file with P has what follows from it
 pub created_more : {P Q : List ℕ → Type 0} {name : List ℕ} {f : ℕ} {a b : World} → ((file : List ℕ) → P file → Q file) → HasCreated P name f a b → HasCreated Q name f a b

@@ -7,7 +7,7 @@ use Rattle.std.proofs.lemmas.Bool.{cases_lt, cond_below, cond_above}
 use Rattle.std.proofs.lemmas.Nat.{mul-le}
 use Rattle.disk_model.specs.Files.{byte, reading, overlay, u16_at, u64_at}
 use Rattle.disk_model.proofs.Laws.{byte-overlay_outside, byte_past, length-overlay_inside, overlay_inside, reading_same, reading-overlay_same}
-use Rattle.disk_model.proofs.Words.{u16_same, u64_same, u16-past, u64-past, u16-overlay_number, u64-overlay_number}
+use Rattle.disk_model.proofs.Words.{number_same, number-past, number-overlay_number}
 use Rattle.qc_layout.specs.Disks.{words_in, counts_in, place_of}
 use Rattle.backup_file.specs.Layout.{table_clusters, l1_clusters, block_clusters, l1_cluster, all_clusters}
 use Rattle.backup_file.specs.declared.layout.Plan.{Plan}
@@ -44,13 +44,13 @@ pub words_step : (from i first step : ℕ) (old mid new : List ℕ) → PutsWord
 words_step from i first step old mid new puts is small room = record {
   words = λ k low. ap (λ (l : List ℕ). u64_at l (from + 8 * k)) is ∙ elim (cases_lt k i) [
     | inl before ↦
-        u64_same (overlay mid (from + 8 * i) (to_be_bytes w64 (first + step * i))) mid (from + 8 * k)
+        number_same w64 (overlay mid (from + 8 * i) (to_be_bytes w64 (first + step * i))) mid (from + 8 * k)
         (λ j above below. byte-overlay_outside mid (from + 8 * i) (to_be_bytes w64 (first + step * i)) j (inl (omega arith)))
         ∙ puts.words k before
     | inr here ↦
         let same : k ≡ i = omega arith in
         ap (λ (n : ℕ). u64_at (overlay mid (from + 8 * i) (to_be_bytes w64 (first + step * i))) (from + 8 * n)) same
-        ∙ u64-overlay_number mid (from + 8 * i) (first + step * i) small
+        ∙ number-overlay_number w64 mid (from + 8 * i) (first + step * i) small
         ∙ ap (λ (n : ℕ). first + step * n) (sym same)
   ];
   others = keeps_on (from + 8 * i) (to_be_bytes w64 (first + step * i)) puts.others is (omega arith) (omega arith) (omega arith) (omega arith);
@@ -60,13 +60,13 @@ pub ones_step : (from i : ℕ) (old mid new : List ℕ) → PutsOnes from i old 
 ones_step from i old mid new puts is room = record {
   ones = λ k low. ap (λ (l : List ℕ). u16_at l (from + 2 * k)) is ∙ elim (cases_lt k i) [
     | inl before ↦
-        u16_same (overlay mid (from + 2 * i) (to_be_bytes w16 1)) mid (from + 2 * k)
+        number_same w16 (overlay mid (from + 2 * i) (to_be_bytes w16 1)) mid (from + 2 * k)
         (λ j above below. byte-overlay_outside mid (from + 2 * i) (to_be_bytes w16 1) j (inl (omega arith)))
         ∙ puts.ones k before
     | inr here ↦
         let same : k ≡ i = omega arith in
         ap (λ (n : ℕ). u16_at (overlay mid (from + 2 * i) (to_be_bytes w16 1)) (from + 2 * n)) same
-        ∙ u16-overlay_number mid (from + 2 * i) 1 (omega arith)
+        ∙ number-overlay_number w16 mid (from + 2 * i) 1 (omega arith)
   ];
   others = keeps_on (from + 2 * i) (to_be_bytes w16 1) puts.others is (omega arith) (omega arith) (omega arith) (omega arith);
 }
@@ -75,10 +75,10 @@ ones_step from i old mid new puts is room = record {
 
 -- a number of eight bytes, and of two, apart from what was put
 u64_kept : {from end : ℕ} {a b : List ℕ} (at : ℕ) → KeepsOthers from end a b → (at + 8 ≤ from) ⊎ (end ≤ at) → u64_at b at ≡ u64_at a at
-u64_kept {from} {end} {a} {b} at keeps apart = u64_same b a at (λ i low high. keeps.same i (⊎_elim (λ (before : at + 8 ≤ from). inl (omega arith)) (λ (behind : end ≤ at). inr (omega arith)) apart))
+u64_kept {from} {end} {a} {b} at keeps apart = number_same w64 b a at (λ i low high. keeps.same i (⊎_elim (λ (before : at + 8 ≤ from). inl (omega arith)) (λ (behind : end ≤ at). inr (omega arith)) apart))
 
 u16_kept : {from end : ℕ} {a b : List ℕ} (at : ℕ) → KeepsOthers from end a b → (at + 2 ≤ from) ⊎ (end ≤ at) → u16_at b at ≡ u16_at a at
-u16_kept {from} {end} {a} {b} at keeps apart = u16_same b a at (λ i low high. keeps.same i (⊎_elim (λ (before : at + 2 ≤ from). inl (omega arith)) (λ (behind : end ≤ at). inr (omega arith)) apart))
+u16_kept {from} {end} {a} {b} at keeps apart = number_same w16 b a at (λ i low high. keeps.same i (⊎_elim (λ (before : at + 2 ≤ from). inl (omega arith)) (λ (behind : end ≤ at). inr (omega arith)) apart))
 
 -- zeros
 pub byte-zeros : (n i : ℕ) → byte (replicate n 0) i ≡ 0
@@ -90,13 +90,13 @@ byte-zeros n i = elim (cases_lt i n) [
 -- zeros behind a first sector
 u64-zeros : (n at : ℕ) (sector : List ℕ) → length sector ≡ 512 → 512 ≤ at → u64_at (overlay (replicate n 0) 0 sector) at ≡ 0
 u64-zeros n at sector long behind =
-    u64_same (overlay (replicate n 0) 0 sector) [] at (λ i low high. byte-overlay_outside (replicate n 0) 0 sector i (inr (omega arith)) ∙ byte-zeros n i ∙ sym (byte_past [] i (omega arith)))
-    ∙ u64-past [] at (omega arith)
+    number_same w64 (overlay (replicate n 0) 0 sector) [] at (λ i low high. byte-overlay_outside (replicate n 0) 0 sector i (inr (omega arith)) ∙ byte-zeros n i ∙ sym (byte_past [] i (omega arith)))
+    ∙ number-past w64 [] at (omega arith)
 
 u16-zeros : (n at : ℕ) (sector : List ℕ) → length sector ≡ 512 → 512 ≤ at → u16_at (overlay (replicate n 0) 0 sector) at ≡ 0
 u16-zeros n at sector long behind =
-    u16_same (overlay (replicate n 0) 0 sector) [] at (λ i low high. byte-overlay_outside (replicate n 0) 0 sector i (inr (omega arith)) ∙ byte-zeros n i ∙ sym (byte_past [] i (omega arith)))
-    ∙ u16-past [] at (omega arith)
+    number_same w16 (overlay (replicate n 0) 0 sector) [] at (λ i low high. byte-overlay_outside (replicate n 0) 0 sector i (inr (omega arith)) ∙ byte-zeros n i ∙ sym (byte_past [] i (omega arith)))
+    ∙ number-past w16 [] at (omega arith)
 
 -- there is room for each part of a file of so many clusters, of p bytes each
 pub record HasRoom (p table blocks clusters : ℕ) : Type 0 where

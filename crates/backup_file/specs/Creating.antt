@@ -21,5 +21,5 @@ Begins name old new = (f : ℕ) × (IsTrue old.tells → IsNameless old f) × Ru
 -- under this name, nor that where the name was there; or there was no memory, and nothing was touched.
 abbrev pub Refuses : List ℕ → World → World → CreateRefusal → Type 0
 Refuses name old new Exists = Runs nothing old new × (IsTrue old.tells → IsSome (old.found name))
-Refuses name old new Failed = (Runs nothing old new ⊎ Begins name old new) × Rose old.faults new.faults × (IsTrue old.tells → IsSome (old.found name) → Runs nothing old new)
+Refuses name old new Failed = (Runs nothing old new ⊎ Begins name old new) × Rose old.faults.shared new.faults.shared × (IsTrue old.tells → IsSome (old.found name) → Runs nothing old new)
 Refuses name old new Memory = Runs nothing old new

@@ -35,9 +35,9 @@ IsRiseAt old new None rise = rise ≡ 0
 IsRiseAt old new (Some f) rise = IsRiseOf (old f) (new f) rise
 
 pub record IsRise (old new : World) (rise : Rise) : Type 0 where
-  pub shared : IsRiseOf old.faults new.faults rise.shared
-  pub reads : (name : List ℕ) → IsRiseAt old.read_faults new.read_faults (old.found name) (rise.reads name)
-  pub writes : (name : List ℕ) → IsRiseAt old.write_faults new.write_faults (old.found name) (rise.writes name)
+  pub shared : IsRiseOf old.faults.shared new.faults.shared rise.shared
+  pub reads : (name : List ℕ) → IsRiseAt old.faults.reads new.faults.reads (old.found name) (rise.reads name)
+  pub writes : (name : List ℕ) → IsRiseAt old.faults.writes new.faults.writes (old.found name) (rise.writes name)
 
 -- ---- a step
 

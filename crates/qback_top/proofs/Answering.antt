@@ -146,6 +146,6 @@ pub begun_part : {old new : World} {f : ℕ} {o : Order} {text after : List ℕ}
 begun_part {old} {new} {f} {o} tells run spares between = record {
   spares = spares;
   disk = subst (λ (disk : List ℕ). Between (disk_of (old.seen f)) disk (disk_of (new.seen f))) (sym tells.left) between;
-  printed = part_none (printed_by (disk_of (old.seen f)) o) old new (run.printed (λ none. none));
-  first = λ prints. inl (run.printed (λ none. none));
+  printed = part_none (printed_by (disk_of (old.seen f)) o) old new ((run.text (λ none. none)).printed);
+  first = λ prints. inl ((run.text (λ none. none)).printed);
 }

@@ -62,17 +62,17 @@ module _ (task : Task) (name : List ℕ) (makes : Makes task name) (words : List
             makes = makes;
             fresh = some.1;
             run = run_more (making_within name some.0) some.2;
-            printed = part_none (made_line name) a b (some.2.printed (λ none. none));
-            first = λ prints. inl (some.2.printed (λ none. none));
+            printed = part_none (made_line name) a b ((some.2.text (λ none. none)).printed);
+            first = λ prints. inl ((some.2.text (λ none. none)).printed);
           }))
           refuses.0
 
   module _ {a b c : World} (f : ℕ) (told : IsTrue a.tells) (made : HasCreated (IsMadeBy task) name f a b) (print : Runs only_text b c) where
     printed_as : b.printed ≡ a.printed
-    printed_as = made.run.printed (λ none. none)
+    printed_as = (made.run.text (λ none. none)).printed
 
     prints_as : IsTrue a.prints → IsTrue b.prints
-    prints_as prints = subst IsTrue (sym made.run.prints) prints
+    prints_as prints = subst IsTrue (sym made.run.goes.prints) prints
 
     -- it was made, and its line couldn't be printed
     pub unsaid_stops : PrintsPart (made_line name) b c → StopsInCreation words a c

@@ -73,12 +73,12 @@ module _ {a b : World} (look : Runs looks a b) where
   due_before words (Told text) due = absurd due
 
   part_before : (orders : List Order) (text : List ℕ) (f : ℕ) (e : World) → PrintsUntilClosed orders text f b e → PrintsUntilClosed orders text f a e
-  part_before orders text f e part told = let p = part (subst IsTrue (sym look.prints) told) in (p.0, p.1 ∙ ap (λ (t : List ℕ). t ++ take p.0 text) (look.printed (λ none. none)), p.2)
+  part_before orders text f e part told = let p = part (subst IsTrue (sym look.goes.prints) told) in (p.0, p.1 ∙ ap (λ (t : List ℕ). t ++ take p.0 text) (look.printed (λ none. none)), p.2)
 
   reached_before : {f k : ℕ} {from : List ℕ} {orders : List Order} (e : World) → Reached from orders k f b e → Reached from orders k f a e
   reached_before {f} {k} {from} {orders} e reached = record {
     disk = reached.disk;
-    printed = λ told. let p = reached.printed (subst IsTrue (sym look.prints) told) in (p.0, p.1 ∙ ap (λ (t : List ℕ). t ++ take p.0 (printed_from from orders)) (look.printed (λ none. none)), p.2, p.3, p.4);
+    printed = λ told. let p = reached.printed (subst IsTrue (sym look.goes.prints) told) in (p.0, p.1 ∙ ap (λ (t : List ℕ). t ++ take p.0 (printed_from from orders)) (look.printed (λ none. none)), p.2, p.3, p.4);
   }
 
   works_before : (f : ℕ) (e : World) → Runs (works_on f) b e → Runs (works_on f) a e
@@ -135,12 +135,12 @@ module _ {a b : World} (look : Runs looks a b) (file script : List ℕ) (image t
   there_after told words form = record { form = form; is_image = look.found file (λ none. none) ∙ first told; is_text = look.found script (λ none. none) ∙ second told }
 
   pub found_shows : {E : Type 0} (e : World) (result : Result End E) → IfOk result (ShowsThere b e file script image text) → IfOk result (ShowsNamed a e file script)
-  found_shows e (Ok end) shows = λ told words form. shows_before look words e end (shows (subst IsTrue (sym look.tells) told) words (there_after told words form))
+  found_shows e (Ok end) shows = λ told words form. shows_before look words e end (shows (subst IsTrue (sym look.goes.tells) told) words (there_after told words form))
   found_shows e (Err stop) shows = tt
 
   pub found_stops : {T E : Type 0} (e : World) (result : Result T E) → OnErr result (StopsFrom b e file script image text) → OnErr result (StopsReplay a e file script)
   found_stops e (Ok end) stops = tt
-  found_stops e (Err stop) stops = λ told words form. stopped_before look words e (stops (subst IsTrue (sym look.tells) told) words (there_after told words form))
+  found_stops e (Err stop) stops = λ told words form. stopped_before look words e (stops (subst IsTrue (sym look.goes.tells) told) words (there_after told words form))
 
 pub replay_err : {T E : Type 0} (result : Result T E) (a e : World) (file script : List ℕ) → Runs looks a e → OnErr result (StopsReplay a e file script)
 replay_err (Ok x) a e file script look = tt

@@ -26,11 +26,11 @@ file_write {f} run = run_more (writes_within_file f) run
 
 -- a run that read this file alone left it as it was
 pub read_same : {f : ℕ} {a b : World} (g : ℕ) → Runs (reads_of f) a b → b.seen g ≡ a.seen g
-read_same g run = run.seen g (λ none. none)
+read_same g run = (run.files g (λ none. none)).seen
 
 -- what files tell, they tell after a run
 pub told_on : {parts : Parts} {a b : World} → Runs parts a b → IsTrue a.tells → IsTrue b.tells
-told_on run told = subst IsTrue (sym run.tells) told
+told_on run told = subst IsTrue (sym run.goes.tells) told
 
 -- a call by other words for the same file, place and bytes
 pub moved_write : {f m place at : ℕ} {xs bytes : List ℕ} {c d : World} → m ≡ f → at ≡ place → bytes ≡ xs → Writes m at bytes c d → Writes f place xs c d

@@ -91,7 +91,7 @@ start_more file sector start size count is read counts starts =
 
 -- what was read of a file after calls that read, it reads from the start on
 pub read_before : {f : ℕ} {a b : World} (g n k : ℕ) (bytes : List ℕ) → Runs (reads_of f) a b → n ≡ k → bytes ≡ reading (b.seen g) 0 n → bytes ≡ reading (a.seen g) 0 k
-read_before {f} {a} {b} g n k bytes run counts is = is ∙ ap (λ (file : List ℕ). reading file 0 n) (run.seen g (λ none. none)) ∙ ap (reading (a.seen g) 0) counts
+read_before {f} {a} {b} g n k bytes run counts is = is ∙ ap (λ (file : List ℕ). reading file 0 n) ((run.files g (λ none. none)).seen) ∙ ap (reading (a.seen g) 0) counts
 
 -- where a read succeeded
 pub read_ok : {T E : Type 0} (bytes : T → List ℕ) (a b : World) (x y : List ℕ) (result : Result T E) → (IsTrue a.tells → IsTrue b.tells) → (IsTrue a.tells → (l : List ℕ) → l ≡ x → l ≡ y)
@@ -114,8 +114,8 @@ due_by words a name f (descriptions.Text text) form found told = (name, f, form,
 pub described : {a b : World} (name : List ℕ) (f : ℕ) (start bytes : List ℕ) (d : Description) → Runs nothing a b → (IsTrue a.tells → a.found name ≡ Some f) → (IsTrue b.tells → start ≡ start_of (b.seen f)) → bytes ≡ start → Describes bytes d
     → IsTrue a.tells → (words : List (List ℕ)) → IsInfo words name → DueBy words a name d
 described {a} {b} name f start bytes d run found read same is = λ told words form.
-    let seen : b.seen f ≡ a.seen f = run.seen f (λ none. none) in
-    due_by words a name f d form (found told) (describes_file (a.seen f) bytes d (same ∙ read (subst IsTrue (sym run.tells) told) ∙ ap (λ (l : List ℕ). start_of l) seen) is)
+    let seen : b.seen f ≡ a.seen f = (run.files f (λ none. none)).seen in
+    due_by words a name f d form (found told) (describes_file (a.seen f) bytes d (same ∙ read (subst IsTrue (sym run.goes.tells) told) ∙ ap (λ (l : List ℕ). start_of l) seen) is)
 
 -- ---- calls that read, and then one that prints
 

@@ -6,7 +6,7 @@ use Rattle.std.proofs.lemmas.Bool.{cases_lt, cases_eq}
 use Rattle.std.proofs.lemmas.List.{length-replicate, get_or-replicate}
 use Rattle.disk_model.specs.Files.{byte, overlay, u64_at}
 use Rattle.disk_model.proofs.Bytes.{length-overlay, length-overlay_inside, byte-overlay_in, is_reading}
-use Rattle.disk_model.proofs.Words.{u64-overlay_same}
+use Rattle.disk_model.proofs.Words.{number-overlay_same}
 use Rattle.qc_layout.specs.Entries.{offset_in}
 use Rattle.qc_layout.specs.FirstForm.{head_of, l1_offset, host_of, table_offset, clusters_of, disk_byte, disk_of, disk_size, IsHeader, IsFirstForm, IsCluster, IsPlainEntry, IsRest}
 use Rattle.qback_top.specs.Open.{Spares, KeepsRest, entry_of, NamesNew}
@@ -18,7 +18,7 @@ use Rattle.qback_top.proofs.Tables.{ChangesOnly, changes_overlay, LiesApart, u64
 
 -- a word that was written reads back
 pub word_there : (f : List ℕ) (o v : ℕ) → v < 2 ^ 64 → u64_at (overlay f o (to_be_bytes w64 v)) o ≡ v
-word_there f o v small = u64-overlay_same f o (to_be_bytes w64 v) refl ∙ from_be_bytes-to_be_bytes_8 v small
+word_there f o v small = number-overlay_same w64 f o (to_be_bytes w64 v) refl ∙ from_be_bytes-to_be_bytes_8 v small
 
 -- eight zeros are 0
 pub u64_zeros : (f : List ℕ) (o : ℕ) → ((i : ℕ) → i < 8 → byte f (o + i) ≡ 0) → u64_at f o ≡ 0

@@ -7,7 +7,7 @@ use Rattle.qc_layout.specs.FirstForm.{head_of, disk_size, l1_offset, table_offse
 use Rattle.disk_model.specs.declared.depot.FileNo.{FileNo}
 use Rattle.qback_top.specs.declared.image.Image.{Image}
 use Rattle.qback_top.specs.Open.{IsOpen, IsNamed, EntryFits, EntriesFit, TablesFit, HeadFits}
-use Rattle.disk_model.proofs.Words.{reading_inside, u32_read, u64_read, u64-reading}
+use Rattle.disk_model.proofs.Words.{reading_inside, number_read, number-reading}
 use Rattle.qback_top.proofs.Disk.{host_none, host_some}
 
 -- ---- numbers in a list
@@ -16,13 +16,13 @@ use Rattle.qback_top.proofs.Disk.{host_none, host_some}
 pub slice_u32 : (bytes : List ℕ) (at : ℕ) → at + 4 ≤ length bytes → from_be_bytes w32 (take (at + 4 - at) (drop at bytes)) ≡ u32_at bytes at
 slice_u32 bytes at inside =
     let four : at + 4 - at ≡ 4 = omega arith in
-    ap (λ (n : ℕ). from_be_bytes w32 (take n (drop at bytes))) four ∙ sym (u32_read bytes (take 4 (drop at bytes)) at (reading_inside bytes at 4 inside))
+    ap (λ (n : ℕ). from_be_bytes w32 (take n (drop at bytes))) four ∙ sym (number_read w32 bytes (take 4 (drop at bytes)) at (reading_inside bytes at 4 inside))
 
 -- the same of eight bytes
 pub slice_u64 : (bytes : List ℕ) (at : ℕ) → at + 8 ≤ length bytes → from_be_bytes w64 (take (at + 8 - at) (drop at bytes)) ≡ u64_at bytes at
 slice_u64 bytes at inside =
     let eight : at + 8 - at ≡ 8 = omega arith in
-    ap (λ (n : ℕ). from_be_bytes w64 (take n (drop at bytes))) eight ∙ sym (u64_read bytes (take 8 (drop at bytes)) at (reading_inside bytes at 8 inside))
+    ap (λ (n : ℕ). from_be_bytes w64 (take n (drop at bytes))) eight ∙ sym (number_read w64 bytes (take 8 (drop at bytes)) at (reading_inside bytes at 8 inside))
 
 -- ---- the tables
 
@@ -72,7 +72,7 @@ aligned_unless (suc o) aligned = aligned (λ none. absurd cc)
 -- an entry of the table that was read says where a cluster is stored
 entry_host : (file : List ℕ) (n : ℕ) → n < 512 → table_offset file ≢ 0 → offset_in (u64_at (reading file (table_offset file) 4096) (8 * n)) ≡ host_of file n
 entry_host file n below some =
-    ap (λ (w : ℕ). offset_in w) (u64-reading file (table_offset file) 4096 (8 * n) (omega arith)) ∙ host_some file n some
+    ap (λ (w : ℕ). offset_in w) (number-reading w64 file (table_offset file) 4096 (8 * n) (omega arith)) ∙ host_some file n some
 
 -- a stored cluster lies in the file, apart from the tables and from each earlier one
 record HostFits (file : List ℕ) (n : ℕ) : Type 0 where
@@ -104,7 +104,7 @@ form_found file long whole head tables = record {
   l1_entry = tables.named.plain;
   table = λ some. record { aligned = tables.named.aligned; some = omega arith; inside = tables.inside some };
   table_apart = λ same. let l1 = head.some in tables.apart (λ none. absurd (omega (arith, same, none, l1))) same;
-  entries = λ n below some. subst IsPlainEntry (u64-reading file (table_offset file) 4096 (8 * n) (omega (arith, few n below))) (tables.entries some n below).named.plain;
+  entries = λ n below some. subst IsPlainEntry (number-reading w64 file (table_offset file) 4096 (8 * n) (omega (arith, few n below))) (tables.entries some n below).named.plain;
   hosts = λ n below stored.
       let fits = each n below stored in
       record { aligned = fits.aligned; some = omega arith; inside = fits.inside stored };
@@ -137,7 +137,7 @@ form_tables file form = record {
       let here = entry_host file n low some in
       record {
         named = record {
-          plain = subst IsPlainEntry (sym (u64-reading file (table_offset file) 4096 (8 * n) (omega arith))) (form.entries n below some);
+          plain = subst IsPlainEntry (sym (number-reading w64 file (table_offset file) 4096 (8 * n) (omega arith))) (form.entries n below some);
           aligned = subst (λ (o : ℕ). o % 4096 ≡ 0) (sym here) (aligned_unless (host_of file n) (λ stored. (form.hosts n below stored).aligned));
         };
         inside = subst (λ (o : ℕ). o ≢ 0 → o < length file) (sym here) (λ stored. (form.hosts n below stored).inside);

@@ -147,7 +147,7 @@ module _ {old now : World} {image : Image} {f : ℕ} {texts rest : List (List �
 pub lines_on : {parts : Parts} {old mid new : World} {image after : Image} {m f : ℕ} {texts rest : List (List ℕ)} {l : Line} {all : List Order} → IsLine texts rest l → GoesOn (order_of l) → m ≡ f → IsTrue old.tells → Runs parts old mid
     → RanSoFar old mid image f texts all → (IsTrue mid.tells → IsOpen image (mid.seen m) → Answered mid new after m (order_of l)) → RanSoFar old new after f rest all
 lines_on {parts} {old} {mid} {new} {image} {after} {m} {f} {texts} {rest} {l} {all} line goes same told run r answered =
-    let did : Answered mid new after f (order_of l) = subst (λ (k : ℕ). IsTrue mid.tells → IsOpen image (mid.seen k) → Answered mid new after k (order_of l)) same answered (subst IsTrue (sym run.tells) told) r.opened in
+    let did : Answered mid new after f (order_of l) = subst (λ (k : ℕ). IsTrue mid.tells → IsOpen image (mid.seen k) → Answered mid new after k (order_of l)) same answered (subst IsTrue (sym run.goes.tells) told) r.opened in
     let start = disk_of (old.seen f) in
     let o = order_of l in
     record {
@@ -159,7 +159,7 @@ lines_on {parts} {old} {mid} {new} {image} {after} {m} {f} {texts} {rest} {l} {a
       opened = did.opened;
       keeps = keeps_on r.opened.form r.keeps did.keeps;
       disk = did.disk ∙ ap (λ (d : List ℕ). disk_by d o) r.disk ∙ sym (carried_one (carried_from start r.done) o) ∙ sym (carried-append start r.done (o ∷ []));
-      printed = λ prints. did.printed (subst IsTrue (sym run.prints) prints) ∙ ap (λ (t : List ℕ). t ++ printed_by (disk_of (mid.seen f)) o) (r.printed prints)
+      printed = λ prints. did.printed (subst IsTrue (sym run.goes.prints) prints) ∙ ap (λ (t : List ℕ). t ++ printed_by (disk_of (mid.seen f)) o) (r.printed prints)
           ∙ append_assoc old.printed (answers_from start r.done) (printed_by (disk_of (mid.seen f)) o)
           ∙ ap (λ (t : List ℕ). old.printed ++ (answers_from start r.done ++ t)) (ap (λ (d : List ℕ). printed_by d o) r.disk ∙ sym (answers_one (carried_from start r.done) o))
           ∙ ap (λ (t : List ℕ). old.printed ++ t) (sym (answers-append start r.done (o ∷ [])));
@@ -282,7 +282,7 @@ pub begun_on : {parts : Parts} {old mid new : World} {image : Image} {m f : ℕ}
     → RanSoFar old mid image f texts all → (IsTrue mid.tells → IsOpen image (mid.seen m) → Begun mid new m (order_of l)) → BegunLines old new f all
 begun_on {parts} {old} {mid} {new} {image} {m} {f} {texts} {rest} {l} {all} line goes same told run r begun =
     let o = order_of l in
-    let did : Begun mid new f o = subst (λ (k : ℕ). IsTrue mid.tells → IsOpen image (mid.seen k) → Begun mid new k o) same begun (subst IsTrue (sym run.tells) told) r.opened in
+    let did : Begun mid new f o = subst (λ (k : ℕ). IsTrue mid.tells → IsOpen image (mid.seen k) → Begun mid new k o) same begun (subst IsTrue (sym run.goes.tells) told) r.opened in
     let disk = disk_of (mid.seen f) in
     let answer = printed_by disk o in
     let after = answers_from (disk_by disk o) (until_end (map order_of (more line r))) in
@@ -290,7 +290,7 @@ begun_on {parts} {old} {mid} {new} {image} {m} {f} {texts} {rest} {l} {all} line
     let one : carried_from disk (take 1 (left_orders r)) ≡ disk_by disk o = ap (λ (os : List Order). carried_from disk (take 1 os)) is ∙ carried_one disk o in
     let first : answers_from disk (take 1 (left_orders r)) ≡ answer = ap (λ (os : List Order). answers_from disk (take 1 os)) is ∙ answers_one disk o in
     let whole : answer ++ (after ++ end_line all) ≡ left_text r = sym (append_assoc answer after (end_line all)) ∙ ap (λ (t : List ℕ). t ++ end_line all) (sym (answers_on disk o (until_end (map order_of (more line r)))) ∙ ap (answers_from disk) (sym is)) in
-    begun_lines r (spares_on r.keeps did.spares) (subst (λ (d : List ℕ). Between disk d (disk_of (new.seen f))) (sym one) did.disk) (λ prints. let on = subst IsTrue (sym run.prints) prints in elim (did.first on) [
+    begun_lines r (spares_on r.keeps did.spares) (subst (λ (d : List ℕ). Between disk d (disk_of (new.seen f))) (sym one) did.disk) (λ prints. let on = subst IsTrue (sym run.goes.prints) prints in elim (did.first on) [
       | inl silent ↦ record { next = []; rest = left_text r; is = refl; printed = silent ∙ sym (append-nil mid.printed); first = inl refl; few = inl (omega arith, omega (arith, length-append (answers_from disk (left_orders r)) (end_line all))) }
       | inr done ↦
           let p = did.printed on in
@@ -310,7 +310,7 @@ begun_on {parts} {old} {mid} {new} {image} {m} {f} {texts} {rest} {l} {all} line
 -- why a later call failed is why the run did
 pub needs_after : {parts : Parts} (old mid new : World) (stop : reason.Stop) → Runs parts old mid → Needs mid new stop → Needs old new stop
 needs_after old mid new Memory run needs = tt
-needs_after old mid new Fault run needs = rose_after old.faults mid.faults new.faults run.faults needs
+needs_after old mid new Fault run needs = rose_after old.faults.shared mid.faults.shared new.faults.shared run.goes.counts.shared needs
 
 -- ---- the end
 

@@ -7,17 +7,17 @@ use Rattle.disk_model.specs.World.{World, Parts, Runs, only_text, PrintsPart}
 
 -- a run that prints alone left each file as it was
 pub text_same : {a b : World} (f : ℕ) → Runs only_text a b → b.seen f ≡ a.seen f
-text_same f run = run.seen f (λ none. none)
+text_same f run = (run.files f (λ none. none)).seen
 
 -- a part printed after a run that prints nothing is a part printed since its start
 pub part_after : {parts : Parts} {a b : World} (c : World) (text : List ℕ) → Runs parts a b → (parts.text → ⊥) → PrintsPart text b c → PrintsPart text a c
 part_after c text run none part prints =
-    let p = part (subst IsTrue (sym run.prints) prints) in
-    (p.0, p.1 ∙ ap (λ (t : List ℕ). t ++ take p.0 text) (run.printed none))
+    let p = part (subst IsTrue (sym run.goes.prints) prints) in
+    (p.0, p.1 ∙ ap (λ (t : List ℕ). t ++ take p.0 text) ((run.text none).printed))
 
 -- so is a whole text
 pub said_after : {parts : Parts} {a b : World} (c : World) (text : List ℕ) → Runs parts a b → (parts.text → ⊥) → (IsTrue b.prints → c.printed ≡ b.printed ++ text) → IsTrue a.prints → c.printed ≡ a.printed ++ text
-said_after c text run none said prints = said (subst IsTrue (sym run.prints) prints) ∙ ap (λ (t : List ℕ). t ++ text) (run.printed none)
+said_after c text run none said prints = said (subst IsTrue (sym run.goes.prints) prints) ∙ ap (λ (t : List ℕ). t ++ text) ((run.text none).printed)
 
 -- a part of the first text is a part of both
 pub part_first : (a b : List ℕ) (old new : World) → PrintsPart a old new → PrintsPart (a ++ b) old new

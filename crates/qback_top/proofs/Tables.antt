@@ -1,10 +1,11 @@
 -- Writes that keep an image's tables.
+use Rattle.std.specs.Int.{w64}
 use Rattle.std.proofs.Common.{◌≡◌, ◌≢◌, ◌⊎◌, inl, inr, ⊎_elim, ℕ, ◌+◌, ◌*◌, ◌/◌, ◌%◌, ◌<◌, ◌≤◌, List, length, refl, sym, ap, subst, ◌∙◌, arith}
 use Rattle.std.proofs.lemmas.Bool.{cases_lt, cases_eq}
 use Rattle.disk_model.specs.Files.{byte, overlay, u64_at, IsTorn}
 use Rattle.disk_model.proofs.Bytes.{overlay_no_shorter, same_file}
 use Rattle.disk_model.proofs.Outcomes.{torn_elsewhere, byte-overlay_outside}
-use Rattle.disk_model.proofs.Words.{reading_same, u64_same}
+use Rattle.disk_model.proofs.Words.{reading_same, number_same}
 use Rattle.qc_layout.specs.Entries.{offset_in}
 use Rattle.qc_layout.specs.FirstForm.{head_of, l1_offset, host_of, table_offset, clusters_of, disk_byte, disk_of, disk_size, IsHeader, IsFirstForm, IsCluster, IsPlainEntry, IsRest}
 use Rattle.qback_top.specs.declared.image.Image.{Image}
@@ -33,7 +34,7 @@ byte_apart lo n o k i (inl below) from to = inl (omega arith)
 byte_apart lo n o k i (inr above) from to = inr (omega arith)
 
 pub u64_kept : (lo n : ℕ) (f g : List ℕ) (o : ℕ) → ChangesOnly lo n f g → LiesApart lo n o 8 → u64_at g o ≡ u64_at f o
-u64_kept lo n f g o changes apart = u64_same g f o (λ i from to. changes.same i (byte_apart lo n o 8 i apart from to))
+u64_kept lo n f g o changes apart = number_same w64 g f o (λ i from to. changes.same i (byte_apart lo n o 8 i apart from to))
 
 pub head_kept : (lo n : ℕ) (f g : List ℕ) → ChangesOnly lo n f g → 104 ≤ lo → head_of g ≡ head_of f
 head_kept lo n f g changes past = reading_same g f 0 104 (λ i from to. changes.same i (inl (omega arith)))

@@ -5,7 +5,7 @@ use Rattle.std.proofs.lemmas.Bool.{cases_lt, cases_eq}
 use Rattle.std.proofs.lemmas.List.{length-take, get_or-take}
 use Rattle.disk_model.specs.Files.{byte, overlay, u64_at, IsTorn}
 use Rattle.disk_model.proofs.Bytes.{byte_past, byte-overlay_below, byte-overlay_in, byte-overlay_above, length-overlay_inside}
-use Rattle.disk_model.proofs.Words.{reading_same, u64_same, word_write}
+use Rattle.disk_model.proofs.Words.{reading_same, number_same, word_write}
 use Rattle.disk_model.proofs.Ranges.{mixed_byte, torn_length}
 use Rattle.qc_layout.specs.Entries.{offset_in}
 use Rattle.qc_layout.specs.FirstForm.{head_of, l1_offset, host_of, table_offset, clusters_of, disk_byte, disk_of, disk_size, IsFirstForm}
@@ -56,7 +56,7 @@ module _ (f g : List ℕ) (form : IsFirstForm f) (same : (i : ℕ) → i < lengt
   past_head = reading_same g f 0 104 (λ i from to. same i (let l = form.long in omega arith))
 
   past_word : (o : ℕ) → o + 8 ≤ length f → u64_at g o ≡ u64_at f o
-  past_word o inside = u64_same g f o (λ i from to. same i (omega arith))
+  past_word o inside = number_same w64 g f o (λ i from to. same i (omega arith))
 
   past_l1 : u64_at g (l1_offset f) ≡ u64_at f (l1_offset f)
   past_l1 = let l1-in = cluster_inside f (l1_offset f) form form.l1 in past_word (l1_offset f) (omega arith)

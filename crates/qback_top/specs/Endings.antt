@@ -75,7 +75,7 @@ MakesAlone name old new = Runs only_text old new ⊎ ((f : ℕ) × (IsTrue old.t
 pub record Says (line : List ℕ) (old new : World) : Type 0 where
   pub run : Runs only_text old new
   pub part : PrintsPart line old new
-  pub whole : (IsTrue old.prints → new.printed ≡ old.printed ++ line) ⊎ Rose old.print_faults new.print_faults
+  pub whole : (IsTrue old.prints → new.printed ≡ old.printed ++ line) ⊎ Rose old.faults.prints new.faults.prints
 
 -- nothing changed but read counts, and then this line was printed
 pub record LooksAndSays (line : List ℕ) (old new : World) : Type 0 where

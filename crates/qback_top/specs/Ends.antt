@@ -35,7 +35,7 @@ pub record StopsAndSays (words : List (List ℕ)) (line : List ℕ) (reason : Wo
   pub said : Says line before new
 
 abbrev pub FaultsRose : World → World → Type 0
-FaultsRose old new = Rose old.faults new.faults
+FaultsRose old new = Rose old.faults.shared new.faults.shared
 
 -- The run ends as is due, or is stopped early by a fault (3) or by want of memory (4).
 abbrev pub EndsAsDue : List (List ℕ) → World → World → ℕ → Type 0

@@ -113,4 +113,4 @@ pub record Goes (old new : Image) (more : ℕ) : Type 0 where
 
 -- `Failed` comes only where the shared count rose
 abbrev pub FileCause : {T E : Type 0} → World → World → Result T E → Type 0
-FileCause old new result = OnErr result (Rose old.faults new.faults)
+FileCause old new result = OnErr result (Rose old.faults.shared new.faults.shared)

@@ -59,7 +59,7 @@ TouchesBy (Replay file script) old new = Runs (works_on_name file new) old new
 
 -- a fault is told only where the shared count rose
 abbrev pub NeedsRise : World → World → End → Type 0
-NeedsRise old new (ends.Stopped stops.Fault) = Rose old.faults new.faults
+NeedsRise old new (ends.Stopped stops.Fault) = Rose old.faults.shared new.faults.shared
 NeedsRise old new end = Unit {0}
 
 abbrev pub status_at : End → ℕ

@@ -47,7 +47,7 @@ pub fn run_files<D: Depot + Console>(alloc: Global, words: &[String], depot: &mu
     // Where files are told, the run ends as is due.
     ensures due { IsTrue (D.world depot.old).tells → EndsAsDue (map string_bytes words.now) (D.world depot.old) (D.world depot.new) result }
     // 3 comes only where a call on the outside failed, and there is no other status.
-    ensures fault { result ≡ 3 → Rose (D.world depot.old).faults (D.world depot.new).faults }
+    ensures fault { result ≡ 3 → Rose (D.world depot.old).faults.shared (D.world depot.new).faults.shared }
     ensures known { (result ≤ 5) ⊎ (result ≡ 8) }
     // No file is touched but the one that the command works on.
     ensures touches { Touches (map string_bytes words.now) (D.world depot.old) (D.world depot.new) }

@@ -10,20 +10,20 @@ returns-in_err-print-clause-part g c =
 pub returns-in_err-print-2-clause-part : goal.returns-in_err-print-2-clause-part
 returns-in_err-print-2-clause-part g c =
     part_first (c.args.front.now ++ c.args.middle.now) c.args.back.now (g.D.Outside.world c.args.depot.now) (g.D.Outside.world c.print-2.new.self)
-    (part_next c.args.front.now c.args.middle.now (g.D.Outside.world c.args.depot.now) (g.D.Outside.world c.print.new.self) (g.D.Outside.world c.print-2.new.self) c.print.ensures.run.prints c.in_ok-print.ensures.printed c.print-2.ensures.part)
+    (part_next c.args.front.now c.args.middle.now (g.D.Outside.world c.args.depot.now) (g.D.Outside.world c.print.new.self) (g.D.Outside.world c.print-2.new.self) c.print.ensures.run.goes.prints c.in_ok-print.ensures.printed c.print-2.ensures.part)
 
 pub returns-in_err-print-3-clause-part : goal.returns-in_err-print-3-clause-part
 returns-in_err-print-3-clause-part g c =
     let a = g.D.Outside.world c.args.depot.now in
     let b = g.D.Outside.world c.print.new.self in
     let d = g.D.Outside.world c.print-2.new.self in
-    part_next (c.args.front.now ++ c.args.middle.now) c.args.back.now a d (g.D.Outside.world c.print-3.new.self) (c.print-2.ensures.run.prints ∙ c.print.ensures.run.prints)
-    (λ told. c.in_ok-print-2.ensures.printed (subst IsTrue (sym c.print.ensures.run.prints) told) ∙ ap (λ (t : List ℕ). t ++ c.args.middle.now) (c.in_ok-print.ensures.printed told) ∙ append_assoc a.printed c.args.front.now c.args.middle.now) c.print-3.ensures.part
+    part_next (c.args.front.now ++ c.args.middle.now) c.args.back.now a d (g.D.Outside.world c.print-3.new.self) (c.print-2.ensures.run.goes.prints ∙ c.print.ensures.run.goes.prints)
+    (λ told. c.in_ok-print-2.ensures.printed (subst IsTrue (sym c.print.ensures.run.goes.prints) told) ∙ ap (λ (t : List ℕ). t ++ c.args.middle.now) (c.in_ok-print.ensures.printed told) ∙ append_assoc a.printed c.args.front.now c.args.middle.now) c.print-3.ensures.part
 
 pub returns-clause-part : goal.returns-clause-part
 returns-clause-part g c =
     let a = g.D.Outside.world c.args.depot.now in
     let b = g.D.Outside.world c.print.new.self in
     let d = g.D.Outside.world c.print-2.new.self in
-    part_next (c.args.front.now ++ c.args.middle.now) c.args.back.now a d (g.D.Outside.world c.print-3.new.self) (c.print-2.ensures.run.prints ∙ c.print.ensures.run.prints)
-    (λ told. c.in_ok-print-2.ensures.printed (subst IsTrue (sym c.print.ensures.run.prints) told) ∙ ap (λ (t : List ℕ). t ++ c.args.middle.now) (c.in_ok-print.ensures.printed told) ∙ append_assoc a.printed c.args.front.now c.args.middle.now) c.print-3.ensures.part
+    part_next (c.args.front.now ++ c.args.middle.now) c.args.back.now a d (g.D.Outside.world c.print-3.new.self) (c.print-2.ensures.run.goes.prints ∙ c.print.ensures.run.goes.prints)
+    (λ told. c.in_ok-print-2.ensures.printed (subst IsTrue (sym c.print.ensures.run.goes.prints) told) ∙ ap (λ (t : List ℕ). t ++ c.args.middle.now) (c.in_ok-print.ensures.printed told) ∙ append_assoc a.printed c.args.front.now c.args.middle.now) c.print-3.ensures.part

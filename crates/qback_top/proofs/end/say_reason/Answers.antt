@@ -28,6 +28,6 @@ returns-clause-part g c =
     let b = g.D.Outside.world c.say_parts.new.depot in
     let d = g.D.Outside.world c.say_parts-2.new.depot in
     subst (λ (t : List ℕ). PrintsPart t a d) (in_two c.args.name.now c.args.reason.now)
-    (part_next (front c.args.name.now) (back c.args.reason.now) a b d c.say_parts.ensures.run.prints
+    (part_next (front c.args.name.now) (back c.args.reason.now) a b d c.say_parts.ensures.run.goes.prints
     (λ told. c.in_ok-say_parts.ensures.printed told ∙ ap (λ (t : List ℕ). a.printed ++ (codes "file " ++ t ++ codes " ")) c.as_bytes.ensures.value)
     (subst (λ (t : List ℕ). PrintsPart (t ++ codes "\n" ++ []) b d) c.as_bytes-2.ensures.value c.say_parts-2.ensures.part))

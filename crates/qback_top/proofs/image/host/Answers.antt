@@ -14,6 +14,6 @@ returns-clause-host g c = λ told opened.
     let is : c.in_ok-table.table ≡ table_offset file = c.in_ok-table.ensures.table told opened in
     let some : table_offset file ≢ 0 = λ z. c.if-table-eq0.false (is ∙ z) in
     let run = c.table.ensures.run in
-    let same : (g.D.Outside.world c.table.new.depot).seen c.args.image.now.file.0 ≡ file = run.seen c.args.image.now.file.0 (λ none. none) in
-    let read = c.in_ok-number_at.ensures.number (subst IsTrue (sym run.tells) told) in
+    let same : (g.D.Outside.world c.table.new.depot).seen c.args.image.now.file.0 ≡ file = (run.files c.args.image.now.file.0 (λ none. none)).seen in
+    let read = c.in_ok-number_at.ensures.number (subst IsTrue (sym run.goes.tells) told) in
     c.offset.ensures.value ∙ ap offset_in (read ∙ ap (λ (f : List ℕ). u64_at f (c.in_ok-table.table + 8 * c.args.cluster)) same ∙ ap (λ (t : ℕ). u64_at file (t + 8 * c.args.cluster)) is) ∙ host_some file c.args.cluster some

@@ -14,8 +14,8 @@ returns-clause-bytes g c = λ told opened inside.
     let is : c.in_ok-host.host ≡ host_of file (c.args.at / 4096) = c.in_ok-host.ensures.host told opened in
     let some : host_of file (c.args.at / 4096) ≢ 0 = λ z. c.if-host-eq0.false (is ∙ z) in
     let run = c.host.ensures.run in
-    let same : (g.D.Outside.world c.host.new.depot).seen c.args.image.now.file.0 ≡ file = run.seen c.args.image.now.file.0 (λ none. none) in
-    c.in_ok-read_at.ensures.bytes (subst IsTrue (sym run.tells) told)
+    let same : (g.D.Outside.world c.host.new.depot).seen c.args.image.now.file.0 ≡ file = (run.files c.args.image.now.file.0 (λ none. none)).seen in
+    c.in_ok-read_at.ensures.bytes (subst IsTrue (sym run.goes.tells) told)
     ∙ ap (λ (f : List ℕ). reading f (c.in_ok-host.host + c.args.at % 4096) (length c.args.out.now)) same
     ∙ ap (λ (h : ℕ). reading file (h + c.args.at % 4096) (length c.args.out.now)) is
     ∙ stored_piece file c.args.at (length c.args.out.now) inside c.requires.piece some

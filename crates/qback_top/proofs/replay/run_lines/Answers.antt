@@ -106,7 +106,7 @@ module _ (g : Over) (c : After-say g) (told : IsTrue (g.D.Outside.world c.args.d
       let text = c.first_line.result.0.now in
       let stops : IsLine (lines_of c.loop-rest.rest.now) (lines_of c.first_line.result.1.now) (plain_line c.in-Some.line) =
       record { raw = cut.0; text = text; is = cut.1; trim = cut.2; spelled = line_found c.in_ok-line.field-0 text c.in-Some.line c.in-Some.is c.in_ok-line.ensures } in
-      stopped i.run.prints c.say.ensures.run stops (ap (λ l. order_of (plain_line l)) c.in-Stop.is) (i.told told opened lines says)
+      stopped i.run.goes.prints c.say.ensures.run stops (ap (λ l. order_of (plain_line l)) c.in-Stop.is) (i.told told opened lines says)
 
 pub returns-in-Stop-clause-ran : goal.returns-in-Stop-clause-ran
 returns-in-Stop-clause-ran g c =
@@ -130,7 +130,7 @@ returns-in_err-sync-clause-begun g c = λ told opened lines says.
     let mid = g.D.Outside.world c.loop-rest.depot in
     let synced = g.D.Outside.world c.sync.new.self in
     let call : Syncs c.args.image.file.0 mid synced = subst (λ (k : ℕ). Syncs k mid synced) (ap (λ (f : FileNo). f.0) i.file) c.sync.ensures.call in
-    begun_stay (i.told told opened lines says) call.seen (call.run.printed (λ none. none))
+    begun_stay (i.told told opened lines says) call.seen ((call.run.text (λ none. none)).printed)
 
 module _ (g : Over) (c : After-say-2 g) where
   -- no line is left, or the next one quits
@@ -154,7 +154,7 @@ module _ (g : Over) (c : After-say-2 g) where
       let synced = g.D.Outside.world c.sync.new.self in
       let l = i.told told opened lines says in
       let file_is : c.loop-rest.image.file.0 ≡ c.args.image.file.0 = ap (λ (f : FileNo). f.0) i.file in
-      closed (g.met.D.Depot.sound c.loop-rest.depot) i.run.prints (subst (λ (k : ℕ). Syncs k mid synced) file_is c.sync.ensures.call) (subst (λ (k : ℕ). HasSynced k mid synced) file_is c.in_ok-sync.ensures.done) c.say-2.ensures.run l (no_more l.left l.says)
+      closed (g.met.D.Depot.sound c.loop-rest.depot) i.run.goes.prints (subst (λ (k : ℕ). Syncs k mid synced) file_is c.sync.ensures.call) (subst (λ (k : ℕ). HasSynced k mid synced) file_is c.in_ok-sync.ensures.done) c.say-2.ensures.run l (no_more l.left l.says)
 
 pub returns-clause-ran : goal.returns-clause-ran
 returns-clause-ran g c =

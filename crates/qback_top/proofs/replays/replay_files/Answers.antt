@@ -13,7 +13,7 @@ returns-clause-shows g c =
     let look = looked_none (run_on c.find.ensures.run c.find-2.ensures.run) in
     found_shows look c.args.file.now c.args.script.now c.in-Some.image.0 c.in-Some-2.text.0
     (λ told. sym (c.in_ok-image.ensures.found told) ∙ ap (option_map (λ (f : FileNo). f.0)) c.in-Some.is)
-    (λ told. sym (c.find.ensures.run.found c.args.script.now (λ none. none)) ∙ sym (c.in_ok-text.ensures.found (subst IsTrue (sym c.find.ensures.run.tells) told)) ∙ ap (option_map (λ (f : FileNo). f.0)) c.in-Some-2.is)
+    (λ told. sym (c.find.ensures.run.found c.args.script.now (λ none. none)) ∙ sym (c.in_ok-text.ensures.found (subst IsTrue (sym c.find.ensures.run.goes.tells) told)) ∙ ap (option_map (λ (f : FileNo). f.0)) c.in-Some-2.is)
     (g.D.Outside.world c.replay_found.new.depot) c.replay_found.result c.replay_found.ensures.shows
 
 pub returns-clause-stops : goal.returns-clause-stops
@@ -21,7 +21,7 @@ returns-clause-stops g c =
     let look = looked_none (run_on c.find.ensures.run c.find-2.ensures.run) in
     found_stops look c.args.file.now c.args.script.now c.in-Some.image.0 c.in-Some-2.text.0
     (λ told. sym (c.in_ok-image.ensures.found told) ∙ ap (option_map (λ (f : FileNo). f.0)) c.in-Some.is)
-    (λ told. sym (c.find.ensures.run.found c.args.script.now (λ none. none)) ∙ sym (c.in_ok-text.ensures.found (subst IsTrue (sym c.find.ensures.run.tells) told)) ∙ ap (option_map (λ (f : FileNo). f.0)) c.in-Some-2.is)
+    (λ told. sym (c.find.ensures.run.found c.args.script.now (λ none. none)) ∙ sym (c.in_ok-text.ensures.found (subst IsTrue (sym c.find.ensures.run.goes.tells) told)) ∙ ap (option_map (λ (f : FileNo). f.0)) c.in-Some-2.is)
     (g.D.Outside.world c.replay_found.new.depot) c.replay_found.result c.replay_found.ensures.stops
 
 pub returns-clause-file : goal.returns-clause-file
