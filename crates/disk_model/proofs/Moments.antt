@@ -260,21 +260,17 @@ sector_exact {f} {place} {bytes} {a} {b} k sound sound_b call low high long c le
         ))
         (one_sector_write place bytes v torn.0 k torn.1 (long v (is_outcome v vs grown)) low high)
 
--- where an outcome is told, so are the files
-pub told_by : (d : World) (f : ℕ) (c : List ℕ) → IsSound d → IsOutcome (versions d f) c → IsTrue d.tells
-told_by d f c sound left = by_cases (versions d f) (sound.told d.now f) left
-  where
-    by_cases : (vs : List (List ℕ)) → IsTold d.tells vs → IsOutcome vs c → IsTrue d.tells
-    by_cases [] told left = absurd (left.sectors 0)
-    by_cases (v ∷ vs) told left = told
-
--- at any moment
+-- where an outcome is told, so are the files, at any moment
 pub told_at : (d : World) (k f : ℕ) (c : List ℕ) → IsSound d → IsOutcome (d.past k f) c → IsTrue d.tells
 told_at d k f c sound left = by_cases (d.past k f) (sound.told k f) left
   where
     by_cases : (vs : List (List ℕ)) → IsTold d.tells vs → IsOutcome vs c → IsTrue d.tells
     by_cases [] told left = absurd (left.sectors 0)
     by_cases (v ∷ vs) told left = told
+
+-- now too
+pub told_by : (d : World) (f : ℕ) (c : List ℕ) → IsSound d → IsOutcome (versions d f) c → IsTrue d.tells
+told_by d f c sound left = told_at d d.now f c sound left
 
 -- after a write that succeeded too
 pub wrote : (place : ℕ) (bytes : List ℕ) (vs ws : List (List ℕ)) → ws ≡ after_write place bytes vs → MayWrite place bytes vs ws
