@@ -15,7 +15,7 @@ use Rattle.qc_layout.specs.declared.records.State.TheVariants.{Blank}
 use Rattle.qc_layout.specs.Header.{is_bits, is_size, is_place, is_disk, has_bit, l1_needed, number_fault, first_of, or_else, form_rules, feature_rules, table_rules}
 use Rattle.qc_layout.specs.Disks.{place_of}
 use Rattle.qc_layout.specs.Records.{record_fault, record_of, record_bytes}
-use Rattle.qc_layout.specs.Spelling.{fields_in, Fits, sector_of, own_bytes, HasSmallNumbers, IsSmallOwn, AreSmallBitmaps, IsOwnOf}
+use Rattle.qc_layout.specs.Spelling.{Fits, sector_of, own_bytes, number_words, AreSmallWords, IsSmallOwn, AreSmallBitmaps, IsOwnOf}
 use Rattle.qc_layout.proofs.RuleLaws.{no_fault, or_none, false_or}
 use Rattle.qc_layout.proofs.Heads.{length-target}
 use Rattle.qc_layout.proofs.Written.{BeginsWith}
@@ -24,7 +24,7 @@ use Rattle.backup_file.specs.declared.layout.Plan.{Plan}
 use Rattle.backup_file.specs.Layout.{is_form, table_clusters, block_clusters, l1_cluster, all_clusters, HasTables, HasNumbers}
 use Rattle.backup_file.specs.Made.{IsNewSource, IsNewTarget, HasBacking}
 use Rattle.backup_file.specs.Plans.{IsPlan, IsPlanOf, IsLaidOut}
-use Rattle.backup_file.specs.Headings.{IsNewHeader, IsFileOf, IsBlankOwn, HasSector, blank, format_bytes}
+use Rattle.backup_file.specs.Headings.{new_fields, IsNewHeader, IsFileOf, IsBlankOwn, HasSector, blank, format_bytes}
 use Rattle.backup_file.proofs.Sizes.{IsForm, IsCluster, form_of, form_tests, table_some, cluster_of, by_bits}
 use Rattle.backup_file.proofs.Laying.{HasRoom, has_room}
 use Rattle.backup_file.proofs.Counting.{new_is_tight, new_is_empty, new_stands}
@@ -52,68 +52,44 @@ module _ (bits size backing_place backing_length : ℕ) (own : Own) (kept : List
   unfolding l1_cluster
   level_some = omega arith
 
-  level_place : is_place h.cluster_bits h.l1_table_offset ≡ true
-  level_place = ap (λ (n : ℕ). is_place n h.l1_table_offset) new.cluster_bits ∙ ap (is_place bits) new.l1_table_offset ∙ place_is bits (l1_cluster bits size) cluster level_some
+  level_place : is_place bits (place_of bits (l1_cluster bits size)) ≡ true
+  level_place = place_is bits (l1_cluster bits size) cluster level_some
 
-  table_place : is_place h.cluster_bits h.refcount_table_offset ≡ true
-  table_place = ap (λ (n : ℕ). is_place n h.refcount_table_offset) new.cluster_bits ∙ ap (is_place bits) new.refcount_table_offset ∙ place_is bits 1 cluster (omega arith)
+  table_place : is_place bits (place_of bits 1) ≡ true
+  table_place = place_is bits 1 cluster (omega arith)
 
-  needed : l1_needed h.cluster_bits h.size ≡ h.l1_size
-  needed = ap (λ (n : ℕ). l1_needed n h.size) new.cluster_bits ∙ ap (l1_needed bits) new.disk_size ∙ sym new.l1_size
+  table_bytes : table_clusters bits size * 2 ^ bits ≤ 2 ^ 26
+  table_bytes = omega (arith, room.counts, room.small)
 
-  table_bytes : h.refcount_table_clusters * 2 ^ h.cluster_bits ≤ 2 ^ 26
-  table_bytes = rw (new.refcount_table_clusters, new.cluster_bits) (omega (arith, room.counts, room.small))
-
-  pub numbers_pass : (part : Part) → (is_disk part && nat_lt 0 backing_place) ≡ false → number_fault part 512 (fields_in h) ≡ None
+  pub numbers_pass : (part : Part) → (is_disk part && nat_lt 0 backing_place) ≡ false → number_fault part 512 h.fields ≡ None
   numbers_pass part backing =
-      let f = fields_in h in
+      let f = new_fields bits size backing_place backing_length in
       let tests = form_tests bits size tested in
-      let entries : h.l1_size ≤ 2 ^ 20 = omega (arith, new.l1_size, form.entries) in
-      let some : h.refcount_table_clusters ≢ 0 = (λ z. omega (arith, new.refcount_table_clusters, table_some bits size form)) in
-      let header = ap (λ (n : ℕ). nat_lt n 104 || nat_lt 504 n || not (n % 8 == 0)) new.header_length in
-      let is_bits_ = ap (λ (n : ℕ). not (is_bits n)) new.cluster_bits ∙ ap not tests.0 in
-      let is_size_ = ap (λ (n : ℕ). not (is_size n h.size)) new.cluster_bits ∙ ap (λ (n : ℕ). not (is_size bits n)) new.disk_size ∙ ap not tests.1 in
-      let disk = ap (λ (n : ℕ). is_disk part && nat_lt 0 n) new.backing_file_offset ∙ backing in
-      let no_bit = (λ (k : ℕ) (none : has_bit k 0 ≡ false). ap (has_bit k) new.incompatible_features ∙ none) in
-      let compression = false_or (has_bit 3 h.incompatible_features) (nat_lt 0 h.compression_type) (no_bit 3 refl) (ap (nat_lt 0) new.compression_type) in
-      let others = ap (λ (n : ℕ). nat_lt 0 (n / 32)) new.incompatible_features in
-      let order = ap (λ (n : ℕ). not (n == 4)) new.refcount_order in
-      let level = false_or (nat_lt (2 ^ 20) h.l1_size || nat_lt h.l1_size (l1_needed h.cluster_bits h.size)) (not (is_place h.cluster_bits h.l1_table_offset))
-      (false_or (nat_lt (2 ^ 20) h.l1_size) (nat_lt h.l1_size (l1_needed h.cluster_bits h.size)) (le-ltb _ _ entries) (le-ltb _ _ (omega (arith, needed))))
+      let needed = l1_needed bits size in
+      let clusters = table_clusters bits size in
+      let level = false_or (nat_lt (2 ^ 20) needed || nat_lt needed needed) (not (is_place bits f.l1_table_offset))
+      (false_or (nat_lt (2 ^ 20) needed) (nat_lt needed needed) (le-ltb _ _ form.entries) (le-ltb _ _ (omega arith)))
       (ap not level_place) in
-      let table = false_or ((h.refcount_table_clusters == 0) || nat_lt (2 ^ 26) (h.refcount_table_clusters * 2 ^ h.cluster_bits)) (not (is_place h.cluster_bits h.refcount_table_offset))
-      (false_or (h.refcount_table_clusters == 0) (nat_lt (2 ^ 26) (h.refcount_table_clusters * 2 ^ h.cluster_bits)) (ne_eqb _ _ some) (le-ltb _ _ table_bytes))
+      let table = false_or ((clusters == 0) || nat_lt (2 ^ 26) (clusters * 2 ^ bits)) (not (is_place bits f.refcount_table_offset))
+      (false_or (clusters == 0) (nat_lt (2 ^ 26) (clusters * 2 ^ bits)) (ne_eqb _ _ (λ z. omega (arith, table_some bits size form))) (le-ltb _ _ table_bytes))
       (ap not table_place) in
-      or_none (first_of (form_rules 512 f)) (or_else (first_of (feature_rules part f)) (first_of (table_rules f)))
-      (no_fault (form_rules 512 f) (refl, (refl, (refl, (header, (is_bits_, (is_size_, tt)))))))
+      rw new.fields (or_none (first_of (form_rules 512 f)) (or_else (first_of (feature_rules part f)) (first_of (table_rules f)))
+      (no_fault (form_rules 512 f) (refl, (refl, (refl, (refl, (ap not tests.0, (ap not tests.1, tt)))))))
       (or_none (first_of (feature_rules part f)) (first_of (table_rules f))
-      (no_fault (feature_rules part f) (disk, (ap (nat_lt 0) new.crypt_method, (ap (nat_lt 0) new.nb_snapshots, (no_bit 0 refl, (no_bit 1 refl, (no_bit 2 refl, (compression, (no_bit 4 refl, (others, (order, tt)))))))))))
-      (no_fault (table_rules f) (level, (table, tt))))
+      (no_fault (feature_rules part f) (backing, (refl, (refl, (refl, (refl, (refl, (refl, (refl, (refl, (refl, tt)))))))))))
+      (no_fault (table_rules f) (level, (table, tt)))))
 
-  small_numbers : backing_place < 2 ^ 64 → backing_length < 2 ^ 32 → HasSmallNumbers h
+  small_numbers : backing_place < 2 ^ 64 → backing_length < 2 ^ 32 → AreSmallWords (number_words h.fields)
   unfolding place_of l1_cluster
   small_numbers place_small length_small =
       let high = form.high in
       let limit = form.limit in
       let entries = form.entries in
-      record {
-        backing_file_offset = omega (arith, new.backing_file_offset);
-        backing_file_size = omega (arith, new.backing_file_size);
-        cluster_bits = omega (arith, new.cluster_bits);
-        size = omega (arith, new.disk_size);
-        crypt_method = omega (arith, new.crypt_method);
-        l1_size = omega (arith, new.l1_size);
-        l1_table_offset = omega (arith, new.l1_table_offset, room.counts, room.small);
-        refcount_table_offset = omega (arith, new.refcount_table_offset, cluster.small);
-        refcount_table_clusters = omega (arith, new.refcount_table_clusters, room.table_small);
-        nb_snapshots = omega (arith, new.nb_snapshots);
-        snapshots_offset = omega (arith, new.snapshots_offset);
-        incompatible_features = omega (arith, new.incompatible_features);
-        compatible_features = omega (arith, new.compatible_features);
-        autoclear_features = omega (arith, new.autoclear_features);
-        refcount_order = omega (arith, new.refcount_order);
-        header_length = omega (arith, new.header_length);
-      }
+      let low : 0 < 2 ^ 32 = omega arith in
+      let long : 0 < 2 ^ 64 = omega arith in
+      let level : 2 ^ bits * (1 + table_clusters bits size + block_clusters bits size) < 2 ^ 64 = omega (arith, room.counts, room.small) in
+      rw new.fields
+      (omega arith, (omega arith, (place_small, (length_small, (omega arith, (omega arith, (low, (omega arith, (level, (omega (arith, cluster.small), (omega (arith, room.table_small), (low, (long, (long, (long, (long, (omega arith, (omega arith, tt))))))))))))))))))
 
   pub is_new : (part : Part) → (is_disk part && nat_lt 0 backing_place) ≡ false → backing_place < 2 ^ 64 → backing_length < 2 ^ 32 → IsOwnOf part own → IsSmallOwn own → length kept ≤ 279 → IsNew part h
   is_new part backing place_small length_small of small short = record {
@@ -123,9 +99,9 @@ module _ (bits size backing_place backing_length : ℕ) (own : Own) (kept : List
       bitmaps = subst AreSmallBitmaps (sym new.bitmaps) tt;
     };
     numbers = numbers_pass part backing;
-    header_length = new.header_length;
+    header_length = rw new.fields refl;
     bitmaps = new.bitmaps;
-    autoclear = ap (has_bit 0) new.autoclear_features;
+    autoclear = rw new.fields refl;
     own = subst (IsOwnOf part) (sym new.is_own) of;
     short = omega (arith, ap length new.keeps);
   }
@@ -133,21 +109,21 @@ module _ (bits size backing_place backing_length : ℕ) (own : Own) (kept : List
   -- the numbers that the file tells
   pub numbers_told : (part : Part) (file : List ℕ) → Tells part file h → HasNumbers bits size file
   numbers_told part file t = record {
-    cluster_bits = rw t.fields new.cluster_bits;
-    disk_size = rw t.fields new.disk_size;
-    refcount_table_offset = rw t.fields new.refcount_table_offset;
-    refcount_table_clusters = rw t.fields new.refcount_table_clusters;
-    l1_table_offset = rw t.fields new.l1_table_offset;
-    l1_size = rw t.fields new.l1_size;
-    header_length = rw t.fields new.header_length;
-    compatible_features = rw t.fields new.compatible_features;
-    autoclear_features = rw t.fields new.autoclear_features;
+    cluster_bits = rw (t.fields, new.fields) refl;
+    disk_size = rw (t.fields, new.fields) refl;
+    refcount_table_offset = rw (t.fields, new.fields) refl;
+    refcount_table_clusters = rw (t.fields, new.fields) refl;
+    l1_table_offset = rw (t.fields, new.fields) refl;
+    l1_size = rw (t.fields, new.fields) refl;
+    header_length = rw (t.fields, new.fields) refl;
+    compatible_features = rw (t.fields, new.fields) refl;
+    autoclear_features = rw (t.fields, new.fields) refl;
   }
 
 -- ---- whole files
 
 source_new : (bits size : ℕ) (disk : List ℕ) (h : Header) → is_form bits size ≡ true → length disk ≡ 16 → IsNewHeader bits size 0 0 (owns.Source disk 0 0 0) [] h → IsNew parts.Source h
-source_new bits size disk h tested long new = is_new bits size 0 0 (owns.Source disk 0 0 0) [] h tested new parts.Source refl (omega arith) (omega arith) long (omega arith, omega arith, omega arith) (omega arith)
+source_new bits size disk h tested long new = is_new bits size 0 0 (owns.Source disk 0 0 0) [] h tested new parts.Source refl (omega arith) (omega arith) long (omega arith, (omega arith, (omega arith, tt))) (omega arith)
 
 source_made : (bits size : ℕ) (disk : List ℕ) (h : Header) (file : List ℕ) → is_form bits size ≡ true → length disk ≡ 16 → IsNewHeader bits size 0 0 (owns.Source disk 0 0 0) [] h → BeginsWith file h → HasTables bits size file
     → IsNewSource bits size disk file
@@ -195,7 +171,7 @@ bare_made : (bits size : ℕ) (own : Own) (h : Header) (file : List ℕ) → is_
 bare_made bits size own h file tested record_ new begins tables =
     let is = bare_new bits size own h tested record_ new in
     let tells = bare_tells parts.Target h file is begins new.keeps in
-    target_with bits size 0 0 own [] None h file tested record_ new tells (record { header = h; is_new = new; sector = begins.sector }) tables (rw tells.fields new.backing_file_offset, rw tells.fields new.backing_file_size)
+    target_with bits size 0 0 own [] None h file tested record_ new tells (record { header = h; is_new = new; sector = begins.sector }) tables (rw (tells.fields, new.fields) refl, rw (tells.fields, new.fields) refl)
 
 backed_new : (bits size : ℕ) (own : Own) (name : List ℕ) (h : Header) → is_form bits size ≡ true → length name ≤ 255 → IsBlankOwn bits own → IsNewHeader bits size 208 (length name) own (format_bytes ++ name) h → IsNew parts.Target h
 backed_new bits size own name h tested short record_ new =
@@ -210,7 +186,7 @@ backed_made bits size own name h file tested short record_ new begins tables =
     let long = ap length (ap own_bytes (new.is_own ∙ record_.is)) ∙ length-target record_.bytes record_.long in
     let at : 112 + length (own_bytes h.own) + 24 ≡ 208 = omega arith in
     target_with bits size 208 (length name) own (format_bytes ++ name) (Some name) h file tested record_ new tells (record { header = h; is_new = new; sector = begins.sector }) tables
-    (rw tells.fields new.backing_file_offset, rw tells.fields new.backing_file_size, ap (λ (n : ℕ). reading file n (length name)) (sym at) ∙ backed.name_stands, backed.format)
+    (rw (tells.fields, new.fields) refl, rw (tells.fields, new.fields) refl, ap (λ (n : ℕ). reading file n (length name)) (sym at) ∙ backed.name_stands, backed.format)
 
 -- ---- as they are laid out
 

@@ -1,6 +1,7 @@
 -- The header of a new image, and the file that it heads.
 use Rattle.std.specs.Prelude.{◌≡◌, ℕ, ◌≤◌, List, ◌^◌, [], ◌++◌, length, replicate, codes, Option, Some, None}
 use Rattle.disk_model.specs.Files.{reading}
+use Rattle.qc_layout.specs.declared.header.Fields.{Fields}
 use Rattle.qc_layout.specs.declared.header.Header.{Header}
 use Rattle.qc_layout.specs.declared.header.Own.{Own}
 use Rattle.qc_layout.specs.declared.header.Own.TheVariants as owns
@@ -15,25 +16,33 @@ use Rattle.qc_layout.specs.Spelling.{be32, Fits, sector_of}
 use Rattle.backup_file.specs.declared.layout.Plan.{Plan}
 use Rattle.backup_file.specs.Layout.{table_clusters, l1_cluster, HasTables}
 
--- The header of a new image. The name of the file under it has so many bytes, at this place.
+-- The numbers of the header of a new image. The name of the file under it has so many bytes, at this place.
+abbrev pub new_fields : ℕ → ℕ → ℕ → ℕ → Fields
+new_fields bits size backing_place backing_length = record {
+  magic = 0x514649fb;
+  version = 3;
+  backing_file_offset = backing_place;
+  backing_file_size = backing_length;
+  cluster_bits = bits;
+  size = size;
+  crypt_method = 0;
+  l1_size = l1_needed bits size;
+  l1_table_offset = place_of bits (l1_cluster bits size);
+  refcount_table_offset = place_of bits 1;
+  refcount_table_clusters = table_clusters bits size;
+  nb_snapshots = 0;
+  snapshots_offset = 0;
+  incompatible_features = 0;
+  compatible_features = 0;
+  autoclear_features = 0;
+  refcount_order = 4;
+  header_length = 112;
+  compression_type = 0;
+}
+
+-- the header of a new image
 pub record IsNewHeader (bits size backing_place backing_length : ℕ) (own : Own) (kept : List ℕ) (h : Header) : Type 0 where
-  pub backing_file_offset : h.backing_file_offset ≡ backing_place
-  pub backing_file_size : h.backing_file_size ≡ backing_length
-  pub cluster_bits : h.cluster_bits ≡ bits
-  pub disk_size : h.size ≡ size
-  pub crypt_method : h.crypt_method ≡ 0
-  pub l1_size : h.l1_size ≡ l1_needed bits size
-  pub l1_table_offset : h.l1_table_offset ≡ place_of bits (l1_cluster bits size)
-  pub refcount_table_offset : h.refcount_table_offset ≡ place_of bits 1
-  pub refcount_table_clusters : h.refcount_table_clusters ≡ table_clusters bits size
-  pub nb_snapshots : h.nb_snapshots ≡ 0
-  pub snapshots_offset : h.snapshots_offset ≡ 0
-  pub incompatible_features : h.incompatible_features ≡ 0
-  pub compatible_features : h.compatible_features ≡ 0
-  pub autoclear_features : h.autoclear_features ≡ 0
-  pub refcount_order : h.refcount_order ≡ 4
-  pub header_length : h.header_length ≡ 112
-  pub compression_type : h.compression_type ≡ 0
+  pub fields : h.fields ≡ new_fields bits size backing_place backing_length
   pub is_own : h.own ≡ own
   pub keeps : h.kept.items.items ≡ kept
   pub bitmaps : h.bitmaps ≡ None

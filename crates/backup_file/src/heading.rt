@@ -5,7 +5,7 @@ ghost use Rattle.backup_file.specs.Plans.{IsPlan};
 ghost use Rattle.backup_file.specs.Headings.{IsNewHeader, IsFileOf, format_bytes};
 
 use crate::layout::{Plan, lay_out};
-use qc_layout::{Header, Own, write_header};
+use qc_layout::{Fields, Header, Own, write_header};
 use span_algebra::Bytes;
 use std::alloc::{AllocError, Global};
 
@@ -36,7 +36,9 @@ pub(crate) fn new_header(
     requires { IsPlan plan.now }
     ensures { IsNewHeader plan.now.cluster_bits plan.now.size backing_file_offset backing_file_size own kept.items.items result }
 {
-    Header {
+    let fields = Fields {
+        magic: 0x514649fb,
+        version: 3,
         backing_file_offset,
         backing_file_size,
         cluster_bits: plan.cluster_bits,
@@ -54,6 +56,9 @@ pub(crate) fn new_header(
         refcount_order: 4,
         header_length: 112,
         compression_type: 0,
+    };
+    Header {
+        fields,
         kept,
         bitmaps: None,
         own,

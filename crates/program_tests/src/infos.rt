@@ -40,6 +40,10 @@ Size 24:0000008000000200
 Backing 15:d0
 Backing 8:01
 Backing 15:d0 112:source
+# A list that breaks leaves a disk a disk, and a backup, which may have a file under it, a backup.
+Backing 15:d0 112:11223344ffffffff
+Extensions 15:d0 112:target 120:record 184:11223344ffffffff
+Extensions 15:d0 112:target 120:record 184:52424b31ffffffff
 Encrypted 35:01
 Snapshots 63:01
 Dirty 79:01

@@ -43,10 +43,10 @@ refused_from_start a b reason alike is = (
   ⊎_elim
       (λ (x : (fault : HeaderFault) × IsFault is.0 a fault × (reason ≡ header_reason fault)). inl (x.0, fault_from_start is.0 a b x.0 alike x.1, x.2))
       (λ (y : ((h : Header) × IsHeaderOf is.0 a h × (h.bitmaps ≢ None) × (reason ≡ codes "Unbuilt"))
-      ⊎ ((h : Header) × (fault : RecordFault) × IsHeaderOf is.0 a h × (h.bitmaps ≡ None) × (fault_in h.cluster_bits h.own ≡ Some fault) × (reason ≡ record_reason fault))).
+      ⊎ ((h : Header) × (fault : RecordFault) × IsHeaderOf is.0 a h × (h.bitmaps ≡ None) × (fault_in h.fields.cluster_bits h.own ≡ Some fault) × (reason ≡ record_reason fault))).
       inr (⊎_elim
       (λ (x : (h : Header) × IsHeaderOf is.0 a h × (h.bitmaps ≢ None) × (reason ≡ codes "Unbuilt")). inl (x.0, header_from_start is.0 a b x.0 alike x.1, x.2, x.3))
-      (λ (x : (h : Header) × (fault : RecordFault) × IsHeaderOf is.0 a h × (h.bitmaps ≡ None) × (fault_in h.cluster_bits h.own ≡ Some fault) × (reason ≡ record_reason fault)).
+      (λ (x : (h : Header) × (fault : RecordFault) × IsHeaderOf is.0 a h × (h.bitmaps ≡ None) × (fault_in h.fields.cluster_bits h.own ≡ Some fault) × (reason ≡ record_reason fault)).
       inr (x.0, x.1, header_from_start is.0 a b x.0 alike x.2, x.3, x.4, x.5))
       y))
       is.2,

@@ -3,6 +3,7 @@ use Rattle.std.proofs.Common.{◌≡◌, ◌≢◌, ◌⊎◌, inl, inr, ℕ, �
 use Rattle.std.specs.Prelude.{codes}
 use Rattle.std.specs.Fmt.{decimal}
 use Rattle.disk_model.specs.World.{World}
+use Rattle.qc_layout.specs.declared.header.Fields.{Fields}
 use Rattle.qc_layout.specs.declared.header.Header.{Header}
 use Rattle.qc_layout.specs.declared.header.HeaderFault.{HeaderFault}
 use Rattle.qc_layout.specs.declared.header.Own.{Own}
@@ -32,18 +33,15 @@ one_part file p parts.Foreign is other = absurd other
 text_by : Own → ℕ → ℕ → List ℕ
 text_by own size bits = kind_line own ++ codes "size " ++ decimal size ++ codes "\ncluster " ++ decimal (2 ^ bits) ++ codes "\n" ++ own_lines own
 
-same_text : (h k : Header) → SameHeader h k → text_by h.own h.size h.cluster_bits ≡ text_by k.own k.size k.cluster_bits
-same_text h k same =
-    ap (λ (own : Own). text_by own h.size h.cluster_bits) same.own
-    ∙ ap (λ (size : ℕ). text_by k.own size h.cluster_bits) same.size
-    ∙ ap (text_by k.own k.size) same.cluster_bits
+same_text : (h k : Header) → SameHeader h k → text_by h.own h.fields.size h.fields.cluster_bits ≡ text_by k.own k.fields.size k.fields.cluster_bits
+same_text h k same = ap (λ (own : Own). text_by own h.fields.size h.fields.cluster_bits) same.own ∙ ap (λ (f : Fields). text_by k.own f.size f.cluster_bits) same.fields
 
 same_info : (h k : Header) → SameHeader h k → info_text h ≡ info_text k
 unfolding text_by
 same_info h k same = same_text h k same
 
-same_fault : (h k : Header) → SameHeader h k → fault_in h.cluster_bits h.own ≡ fault_in k.cluster_bits k.own
-same_fault h k same = ap (λ (bits : ℕ). fault_in bits h.own) same.cluster_bits ∙ ap (fault_in k.cluster_bits) same.own
+same_fault : (h k : Header) → SameHeader h k → fault_in h.fields.cluster_bits h.own ≡ fault_in k.fields.cluster_bits k.own
+same_fault h k same = ap (λ (f : Fields). fault_in f.cluster_bits h.own) same.fields ∙ ap (fault_in k.fields.cluster_bits) same.own
 
 -- one file's header against itself
 alike : (part : Part) (file : List ℕ) (h k : Header) → IsHeaderOf part file h → IsHeaderOf part file k → SameHeader h k
@@ -64,13 +62,13 @@ abbrev RefusedBy : Part → List ℕ → List ℕ → Type 0
 RefusedBy part file reason =
     ((fault : HeaderFault) × IsFault part file fault × (reason ≡ header_reason fault))
     ⊎ ((h : Header) × IsHeaderOf part file h × (h.bitmaps ≢ None) × (reason ≡ codes "Unbuilt"))
-    ⊎ ((h : Header) × (fault : RecordFault) × IsHeaderOf part file h × (h.bitmaps ≡ None) × (fault_in h.cluster_bits h.own ≡ Some fault) × (reason ≡ record_reason fault))
+    ⊎ ((h : Header) × (fault : RecordFault) × IsHeaderOf part file h × (h.bitmaps ≡ None) × (fault_in h.fields.cluster_bits h.own ≡ Some fault) × (reason ≡ record_reason fault))
 
 record ToldBy (part : Part) (file text : List ℕ) : Type 0 where
   header : Header
   spells : IsHeaderOf part file header
   built : header.bitmaps ≡ None
-  passes : fault_in header.cluster_bits header.own ≡ None
+  passes : fault_in header.fields.cluster_bits header.own ≡ None
   is : text ≡ info_text header
 
 refused_by : (file reason : List ℕ) (part : Part) (is : IsRefusedAs file reason) → IsReadAs file part → RefusedBy part file reason
@@ -92,14 +90,14 @@ one_reason part file r s (inr (inr x)) (inl y) = absurd (fault_or_header part fi
 one_reason part file r s (inr (inr x)) (inr (inl y)) = absurd (built_or_not part file y.0 x.0 y.1 x.2 y.2 x.3)
 one_reason part file r s (inr (inr x)) (inr (inr y)) =
     x.5
-    ∙ ap record_reason (two_faults (fault_in x.0.cluster_bits x.0.own) (fault_in y.0.cluster_bits y.0.own) x.1 y.1 (same_fault x.0 y.0 (alike part file x.0 y.0 x.2 y.2)) x.4 y.4)
+    ∙ ap record_reason (two_faults (fault_in x.0.fields.cluster_bits x.0.own) (fault_in y.0.fields.cluster_bits y.0.own) x.1 y.1 (same_fault x.0 y.0 (alike part file x.0 y.0 x.2 y.2)) x.4 y.4)
     ∙ sym y.5
 
 told_or_refused : (part : Part) (file text reason : List ℕ) → ToldBy part file text → RefusedBy part file reason → ⊥
 told_or_refused part file text reason told (inl x) = fault_or_header part file told.header x.0 told.spells.spells x.1
 told_or_refused part file text reason told (inr (inl x)) = built_or_not part file x.0 told.header x.1 told.spells x.2 told.built
 told_or_refused part file text reason told (inr (inr x)) =
-    fault_or_none (fault_in x.0.cluster_bits x.0.own) (fault_in told.header.cluster_bits told.header.own) x.1 (same_fault x.0 told.header (alike part file x.0 told.header x.2 told.spells)) x.4 told.passes
+    fault_or_none (fault_in x.0.fields.cluster_bits x.0.own) (fault_in told.header.fields.cluster_bits told.header.own) x.1 (same_fault x.0 told.header (alike part file x.0 told.header x.2 told.spells)) x.4 told.passes
 
 one_text : (part : Part) (file t u : List ℕ) → ToldBy part file t → ToldBy part file u → t ≡ u
 one_text part file t u told other = told.is ∙ same_info told.header other.header (alike part file told.header other.header told.spells other.spells) ∙ sym other.is

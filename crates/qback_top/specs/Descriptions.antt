@@ -16,8 +16,8 @@ Describes file (descriptions.Text text) = IsToldAs file text.items
 abbrev pub DescribesHeader : Header → Description → Type 0
 DescribesHeader h (descriptions.Refused reason) =
     ((h.bitmaps ≢ None) × (reason.now ≡ codes "Unbuilt"))
-    ⊎ ((fault : RecordFault) × (h.bitmaps ≡ None) × (fault_in h.cluster_bits h.own ≡ Some fault) × (reason.now ≡ record_reason fault))
-DescribesHeader h (descriptions.Text text) = (h.bitmaps ≡ None) × (fault_in h.cluster_bits h.own ≡ None) × (text.items ≡ info_text h)
+    ⊎ ((fault : RecordFault) × (h.bitmaps ≡ None) × (fault_in h.fields.cluster_bits h.own ≡ Some fault) × (reason.now ≡ record_reason fault))
+DescribesHeader h (descriptions.Text text) = (h.bitmaps ≡ None) × (fault_in h.fields.cluster_bits h.own ≡ None) × (text.items ≡ info_text h)
 
 -- the lines of this project's extension were added to a text, unless its record fails a rule
 pub record AddsOwn (bits : ℕ) (own : Own) (fault : Option RecordFault) (old new : List ℕ) : Type 0 where

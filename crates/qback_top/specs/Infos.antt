@@ -84,7 +84,7 @@ own_lines (Source disk epoch spans_offset spans_length) = codes "id " ++ encode_
 own_lines (Target bytes) = record_lines (record_of bytes)
 
 abbrev pub info_text : Header → List ℕ
-info_text h = kind_line h.own ++ codes "size " ++ decimal h.size ++ codes "\ncluster " ++ decimal (2 ^ h.cluster_bits) ++ codes "\n" ++ own_lines h.own
+info_text h = kind_line h.own ++ codes "size " ++ decimal h.fields.size ++ codes "\ncluster " ++ decimal (2 ^ h.fields.cluster_bits) ++ codes "\n" ++ own_lines h.own
 
 -- ---- which end is due
 
@@ -95,13 +95,13 @@ fault_in bits own = None
 
 -- a file is told by its header and its record, and refused by the first rule that they fail; bitmaps aren't read yet
 abbrev pub IsToldAs : List ℕ → List ℕ → Type 0
-IsToldAs file text = (part : Part) × (h : Header) × IsReadAs file part × IsHeaderOf part file h × (h.bitmaps ≡ None) × (fault_in h.cluster_bits h.own ≡ None) × (text ≡ info_text h)
+IsToldAs file text = (part : Part) × (h : Header) × IsReadAs file part × IsHeaderOf part file h × (h.bitmaps ≡ None) × (fault_in h.fields.cluster_bits h.own ≡ None) × (text ≡ info_text h)
 
 abbrev pub IsRefusedAs : List ℕ → List ℕ → Type 0
 IsRefusedAs file reason = (part : Part) × IsReadAs file part × (
     ((fault : HeaderFault) × IsFault part file fault × (reason ≡ header_reason fault))
     ⊎ ((h : Header) × IsHeaderOf part file h × (h.bitmaps ≢ None) × (reason ≡ codes "Unbuilt"))
-    ⊎ ((h : Header) × (fault : RecordFault) × IsHeaderOf part file h × (h.bitmaps ≡ None) × (fault_in h.cluster_bits h.own ≡ Some fault) × (reason ≡ record_reason fault)))
+    ⊎ ((h : Header) × (fault : RecordFault) × IsHeaderOf part file h × (h.bitmaps ≡ None) × (fault_in h.fields.cluster_bits h.own ≡ Some fault) × (reason ≡ record_reason fault)))
 
 abbrev pub InfoDue : List (List ℕ) → World → Ending → Type 0
 InfoDue words w (Missing name) = IsInfo words name × (w.found name ≡ None)

@@ -185,29 +185,29 @@ fn kind_line(own: &Own) -> &'static str
 
 /// The lines that each header has.
 fn head_lines(alloc: Global, header: &Header) -> Result<Vec<u8>, AllocError>
-    requires { header.now.cluster_bits ≤ 21 }
-    ensures { IfOk result (λ text. text.items ≡ kind_line header.now.own ++ codes "size " ++ decimal header.now.size ++ codes "\ncluster " ++ decimal (2 ^ header.now.cluster_bits) ++ codes "\n") }
+    requires { header.now.fields.cluster_bits ≤ 21 }
+    ensures { IfOk result (λ text. text.items ≡ kind_line header.now.own ++ codes "size " ++ decimal header.now.fields.size ++ codes "\ncluster " ++ decimal (2 ^ header.now.fields.cluster_bits) ++ codes "\n") }
 {
     let mut text = Vec::from_slice(alloc, kind_line(&header.own).as_bytes())?;
     text.extend_from_slice(b"size ")?;
-    add_number(&mut text, header.size)?;
+    add_number(&mut text, header.fields.size)?;
     text.extend_from_slice(b"\ncluster ")?;
-    add_number(&mut text, 1 << header.cluster_bits)?;
+    add_number(&mut text, 1 << header.fields.cluster_bits)?;
     text.extend_from_slice(b"\n")?;
     Ok(text)
 }
 
 /// What a file with this header is.
 fn describe_header(alloc: Global, header: &Header) -> Result<Description, AllocError>
-    requires low { 9 ≤ header.now.cluster_bits }
-    requires high { header.now.cluster_bits ≤ 21 }
+    requires low { 9 ≤ header.now.fields.cluster_bits }
+    requires high { header.now.fields.cluster_bits ≤ 21 }
     ensures { IfOk result (λ description. DescribesHeader header.now description) }
 {
     if header.bitmaps.is_some() {
         return Ok(Description::Refused("Unbuilt"));
     }
     let mut text = head_lines(alloc, header)?;
-    match add_own(alloc, &mut text, header.cluster_bits, &header.own)? {
+    match add_own(alloc, &mut text, header.fields.cluster_bits, &header.own)? {
         Some(fault) => Ok(Description::Refused(record_reason(fault))),
         None => Ok(Description::Text(text)),
     }
@@ -218,7 +218,7 @@ pub fn describe(alloc: Global, bytes: &[u8]) -> Result<Description, Stop>
     ensures described { IfOk result (λ description. Describes bytes.now description) }
     ensures cause { (old new : World) → StopsFor old new result }
 {
-    let part = kind_of(alloc, bytes)?;
+    let part = kind_of(bytes);
     match read_header(alloc, bytes, part) {
         Err(HeaderFault::Memory) => Err(Stop::Memory),
         Err(fault) => Ok(Description::Refused(header_reason(fault))),

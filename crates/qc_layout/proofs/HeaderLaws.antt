@@ -1,6 +1,7 @@
 -- A file spells one header, or has one fault.
 use Rattle.std.proofs.Common.{◌≡◌, inl, inr, ℕ, List, ◌++◌, Option, Some, None, sym, ap, ◌∙◌, subst}
 use Rattle.qc_layout.specs.declared.extension.Extension.{Extension}
+use Rattle.qc_layout.specs.declared.header.Fields.{Fields}
 use Rattle.qc_layout.specs.declared.header.Header.{Header}
 use Rattle.qc_layout.specs.declared.header.Part.{Part}
 use Rattle.qc_layout.specs.declared.header.HeaderFault.{HeaderFault}
@@ -43,31 +44,13 @@ fault_or_header part file h a is (inr (inr x)) =
 
 pub one_header : (part : Part) (file : List ℕ) (h g : Header) → IsHeaderOf part file h → IsHeaderOf part file g → SameHeader h g
 one_header part file h g is other =
-    let f = is.spells.fields in
-    let k = other.spells.fields in
     let es = is.spells.extensions in
     let same : other.spells.extensions ≡ es = one_in file other.spells.extensions es other.spells.listed is.spells.listed in
-    let length_same : h.header_length ≡ g.header_length = f.header_length ∙ sym k.header_length in
+    let fields : h.fields ≡ g.fields = is.spells.fields ∙ sym other.spells.fields in
     record {
-      backing_file_offset = f.backing_file_offset ∙ sym k.backing_file_offset;
-      backing_file_size = f.backing_file_size ∙ sym k.backing_file_size;
-      cluster_bits = f.cluster_bits ∙ sym k.cluster_bits;
-      size = f.size ∙ sym k.size;
-      crypt_method = f.crypt_method ∙ sym k.crypt_method;
-      l1_size = f.l1_size ∙ sym k.l1_size;
-      l1_table_offset = f.l1_table_offset ∙ sym k.l1_table_offset;
-      refcount_table_offset = f.refcount_table_offset ∙ sym k.refcount_table_offset;
-      refcount_table_clusters = f.refcount_table_clusters ∙ sym k.refcount_table_clusters;
-      nb_snapshots = f.nb_snapshots ∙ sym k.nb_snapshots;
-      snapshots_offset = f.snapshots_offset ∙ sym k.snapshots_offset;
-      incompatible_features = f.incompatible_features ∙ sym k.incompatible_features;
-      compatible_features = f.compatible_features ∙ sym k.compatible_features;
-      autoclear_features = f.autoclear_features ∙ sym k.autoclear_features;
-      refcount_order = f.refcount_order ∙ sym k.refcount_order;
-      header_length = length_same;
-      compression_type = f.compression_type ∙ sym k.compression_type;
-      kept = is.spells.kept ∙ ap (λ (n : ℕ). tail_of file n ++ kept_bytes file es) length_same
-          ∙ sym (other.spells.kept ∙ ap (λ (l : List Extension). tail_of file g.header_length ++ kept_bytes file l) same);
+      fields = fields;
+      kept = is.spells.kept ∙ ap (λ (f : Fields). tail_of file f.header_length ++ kept_bytes file es) fields
+          ∙ sym (other.spells.kept ∙ ap (λ (l : List Extension). tail_of file g.fields.header_length ++ kept_bytes file l) same);
       bitmaps = is.spells.bitmaps ∙ sym (other.spells.bitmaps ∙ ap (λ (l : List Extension). bitmaps_in file (first_of_kind bitmaps_kind l)) same);
       own = is.spells.own ∙ sym (other.spells.own ∙ ap (λ (l : List Extension). own_in file (first_of_kind own_kind l)) same);
       own_at = is.own_at ∙ sym (other.own_at ∙ ap (λ (l : List Extension). place_in (first_of_kind own_kind l)) same);

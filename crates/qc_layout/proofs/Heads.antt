@@ -1,5 +1,5 @@
 -- This project's extension and that of bitmaps, in front of others, as they are written.
-use Rattle.std.proofs.Common.{◌≡◌, ℕ, ◌+◌, ◌≤◌, List, ◌∷◌, ◌++◌, length, Bool, true, false, Option, Some, None, refl, sym, ap, ◌∙◌, subst, arith, append_assoc, length-append}
+use Rattle.std.proofs.Common.{◌≡◌, ◌≢◌, ℕ, ◌+◌, ◌^◌, ◌<◌, ◌≤◌, List, ◌∷◌, ◌++◌, length, Bool, true, false, Option, Some, None, refl, sym, ap, ◌∙◌, subst, arith, append_assoc, length-append}
 use Rattle.std.specs.Prelude.{not, ◌||◌, nat_lt, ◌==◌}
 use Rattle.std.proofs.lemmas.Bool.{le-ltb, ne_eqb}
 use Rattle.disk_model.specs.Files.{reading, u32_at, u64_at}
@@ -10,9 +10,10 @@ use Rattle.qc_layout.specs.declared.header.Own.TheVariants as owns
 use Rattle.qc_layout.specs.declared.header.Part.{Part}
 use Rattle.qc_layout.specs.declared.header.Part.TheVariants as parts
 use Rattle.qc_layout.specs.Header.{is_place, is_disk}
-use Rattle.qc_layout.specs.Extensions.{AreExtensions, kept_bytes, kept_length, count_of, first_of_kind, bitmaps_kind, own_kind, own_in, bitmaps_in, is_bad_own, is_bad_bitmaps, is_there}
-use Rattle.qc_layout.specs.Spelling.{word32, word64, own_bytes, bitmaps_bytes, IsSmallOwn, AreSmallBitmaps, AreBitmaps, IsOwnOf, has_bitmaps}
-use Rattle.qc_layout.proofs.Standing.{Stands, stands_at, stands_as, stands_left, stands_right, stands_u64, first_u32, first_u64, past_u32, past_u64, length-word32, length-word64}
+use Rattle.qc_layout.specs.Extensions.{IsExtension, AreExtensions, kept_bytes, kept_length, count_of, first_of_kind, bitmaps_kind, own_kind, own_in, bitmaps_in, is_bad_own, is_bad_bitmaps, is_there}
+use Rattle.qc_layout.specs.Spelling.{words_bytes, head_words, source_words, bitmaps_words, own_bytes, bitmaps_bytes, IsSmallOwn, AreSmallBitmaps, AreBitmaps, IsOwnOf, has_bitmaps}
+use Rattle.qc_layout.proofs.Standing.{Stands, stands_at, stands_as, stands_left, stands_right}
+use Rattle.qc_layout.proofs.WrittenNumbers.{words_there, length-words}
 use Rattle.qc_layout.proofs.Words.{no_own_bytes, no_bitmaps_bytes}
 
 -- one in front, if it is there
@@ -20,30 +21,54 @@ abbrev pub in_front : Option Extension → List Extension → List Extension
 in_front None es = es
 in_front (Some e) es = e ∷ es
 
+-- an extension with content behind this place
+abbrev pub extension_at : ℕ → ℕ → ℕ → Extension
+extension_at kind place length = record { kind = kind; place = place + 8; length = length }
+
+-- it stands there, where its bytes do
+pub head_stands : {file : List ℕ} {place : ℕ} (end kind long : ℕ) (content : List ℕ) → Stands file place (words_bytes (head_words kind long) ++ content) → kind < 2 ^ 32 → kind ≢ 0 → long < 2 ^ 32 → place + 8 + long ≤ end
+    → IsExtension file end place (extension_at kind place long)
+head_stands {file} {place} end kind long content s low some small whole =
+    let here : place + 0 ≡ place = omega arith in
+    let there = words_there file place 0 (head_words kind long) (low, (small, tt)) (stands_at (sym here) (stands_left (words_bytes (head_words kind long)) content s)) in
+    record {
+      inside = omega arith;
+      kind = sym there.0 ∙ ap (u32_at file) here;
+      some = some;
+      place = refl;
+      length = sym there.1.0;
+      whole = whole;
+    }
+
+-- and so does its content
+pub content_stands : {file : List ℕ} {place : ℕ} (kind long : ℕ) (content : List ℕ) → Stands file place (words_bytes (head_words kind long) ++ content) → Stands file (place + 8) content
+content_stands {file} {place} kind long content s =
+    stands_at (ap (λ (n : ℕ). place + n) (length-words (head_words kind long))) (stands_right (words_bytes (head_words kind long)) content s)
+
 -- ---- this project's own
 
 abbrev pub own_extension : ℕ → Own → Option Extension
 own_extension place owns.Absent = None
-own_extension place (owns.Source disk epoch spans_offset spans_length) = Some (record { kind = own_kind; place = place + 8; length = 40 })
-own_extension place (owns.Target bytes) = Some (record { kind = own_kind; place = place + 8; length = 64 })
+own_extension place (owns.Source disk epoch spans_offset spans_length) = Some (extension_at own_kind place 40)
+own_extension place (owns.Target bytes) = Some (extension_at own_kind place 64)
 
-source_nested : (disk : List ℕ) (epoch spans_offset spans_length : ℕ) →
-    own_bytes (owns.Source disk epoch spans_offset spans_length) ≡ word32 own_kind ++ (word32 40 ++ (disk ++ (word64 epoch ++ (word64 spans_offset ++ word64 spans_length))))
-unfolding word32 word64 own_bytes
-source_nested disk epoch spans_offset spans_length = simp append_assoc
+source_are : (disk : List ℕ) (epoch spans_offset spans_length : ℕ) →
+    own_bytes (owns.Source disk epoch spans_offset spans_length) ≡ words_bytes (head_words own_kind 40) ++ (disk ++ words_bytes (source_words epoch spans_offset spans_length))
+unfolding own_bytes
+source_are disk epoch spans_offset spans_length = refl
 
-target_nested : (bytes : List ℕ) → own_bytes (owns.Target bytes) ≡ word32 own_kind ++ (word32 64 ++ bytes)
-unfolding word32 own_bytes
-target_nested bytes = refl
+target_are : (bytes : List ℕ) → own_bytes (owns.Target bytes) ≡ words_bytes (head_words own_kind 64) ++ bytes
+unfolding own_bytes
+target_are bytes = refl
 
 pub length-source : (disk : List ℕ) (epoch spans_offset spans_length : ℕ) → length disk ≡ 16 → length (own_bytes (owns.Source disk epoch spans_offset spans_length)) ≡ 48
 length-source disk epoch spans_offset spans_length long =
-    ap length (source_nested disk epoch spans_offset spans_length)
-    ∙ omega (arith, length-append {A = ℕ}, length-word32, length-word64)
+    ap length (source_are disk epoch spans_offset spans_length)
+    ∙ omega (arith, length-append {A = ℕ}, length-words)
 
 pub length-target : (bytes : List ℕ) → length bytes ≡ 64 → length (own_bytes (owns.Target bytes)) ≡ 72
 length-target bytes long =
-    ap length (target_nested bytes) ∙ omega (arith, length-append {A = ℕ}, length-word32)
+    ap length (target_are bytes) ∙ omega (arith, length-append {A = ℕ}, length-words)
 
 pub own_short : (part : Part) (own : Own) → IsOwnOf part own → length (own_bytes own) ≤ 72
 own_short part owns.Absent of = omega (arith, ap length no_own_bytes)
@@ -54,20 +79,13 @@ own_short parts.Source (owns.Target bytes) of = absurd of
 own_short parts.Foreign (owns.Target bytes) of = absurd of
 own_short parts.Target (owns.Target bytes) of = omega (arith, length-target bytes of)
 
-pub own_of_disk_short : (part : Part) (own : Own) → is_disk part ≡ true → IsOwnOf part own → length (own_bytes own) ≤ 48
-own_of_disk_short part owns.Absent disk_part of = omega (arith, ap length no_own_bytes)
-own_of_disk_short parts.Source (owns.Source disk epoch spans_offset spans_length) disk_part of = omega (arith, length-source disk epoch spans_offset spans_length of)
-own_of_disk_short parts.Foreign (owns.Source disk epoch spans_offset spans_length) disk_part of = omega (arith, length-source disk epoch spans_offset spans_length of)
-own_of_disk_short parts.Target own disk_part of = absurd cc
-own_of_disk_short parts.Source (owns.Target bytes) disk_part of = absurd of
-own_of_disk_short parts.Foreign (owns.Target bytes) disk_part of = absurd of
+-- it is what stands there
+pub source_stands : {file : List ℕ} {place : ℕ} (end : ℕ) (disk : List ℕ) (epoch spans_offset spans_length : ℕ) → Stands file place (own_bytes (owns.Source disk epoch spans_offset spans_length)) → place + 48 ≤ end
+    → IsExtension file end place (extension_at own_kind place 40)
+source_stands end disk epoch spans_offset spans_length s inside = head_stands end own_kind 40 _ (stands_as (source_are disk epoch spans_offset spans_length) s) (omega arith) (λ z. omega arith) (omega arith) (omega arith)
 
--- its kind
-pub source_kind : {file : List ℕ} {place : ℕ} (disk : List ℕ) (epoch spans_offset spans_length : ℕ) → Stands file place (own_bytes (owns.Source disk epoch spans_offset spans_length)) → u32_at file place ≡ own_kind
-source_kind {file} {place} disk epoch spans_offset spans_length s = first_u32 _ _ (stands_as (source_nested disk epoch spans_offset spans_length) s) (omega arith)
-
-pub target_kind : {file : List ℕ} {place : ℕ} (bytes : List ℕ) → Stands file place (own_bytes (owns.Target bytes)) → u32_at file place ≡ own_kind
-target_kind {file} {place} bytes s = first_u32 _ _ (stands_as (target_nested bytes) s) (omega arith)
+pub target_stands : {file : List ℕ} {place : ℕ} (end : ℕ) (bytes : List ℕ) → Stands file place (own_bytes (owns.Target bytes)) → place + 72 ≤ end → IsExtension file end place (extension_at own_kind place 64)
+target_stands end bytes s inside = head_stands end own_kind 64 _ (stands_as (target_are bytes) s) (omega arith) (λ z. omega arith) (omega arith) (omega arith)
 
 -- what its extension says again
 pub record SaysOwn (part : Part) (file : List ℕ) (end place : ℕ) (own : Own) (es : List Extension) : Type 0 where
@@ -83,35 +101,14 @@ source_says : (part : Part) (file : List ℕ) (end place : ℕ) (disk : List ℕ
     place + 48 ≤ end → AreExtensions file end (place + 48) es → is_bad_own part (own_extension place (owns.Source disk epoch spans_offset spans_length)) ≡ false →
     SaysOwn part file end place (owns.Source disk epoch spans_offset spans_length) es
 source_says part file end place disk epoch spans_offset spans_length es long small s inside listed well =
-    let s0 = stands_as (source_nested disk epoch spans_offset spans_length) s in
-    let s1 = past_u32 _ _ s0 in
-    let s2 = past_u32 _ _ s1 in
-    let s3 = stands_right disk (word64 epoch ++ (word64 spans_offset ++ word64 spans_length)) s2 in
-    let to : place + 4 + 4 ≡ place + 8 = omega arith in
-    let to_epoch : place + 4 + 4 + length disk ≡ place + 8 + 16 = omega arith in
-    let e0 = stands_at to_epoch s3 in
-    let to_offset : place + 8 + 16 + 8 ≡ place + 8 + 24 = omega arith in
-    let e1 = stands_at to_offset (past_u64 _ _ e0) in
-    let to_length : place + 8 + 24 + 8 ≡ place + 8 + 32 = omega arith in
-    let e2 = stands_at to_length (past_u64 _ _ e1) in
-    let whole = stands_at to (stands_left disk (word64 epoch ++ (word64 spans_offset ++ word64 spans_length)) s2) in
-    let is_disk : disk ≡ reading file (place + 8) 16 = sym whole.read ∙ ap (reading file (place + 8)) long in
-    let is_epoch : epoch ≡ u64_at file (place + 8 + 16) = sym (first_u64 _ _ e0 small.0) in
-    let is_offset : spans_offset ≡ u64_at file (place + 8 + 24) = sym (first_u64 _ _ e1 small.1) in
-    let is_length : spans_length ≡ u64_at file (place + 8 + 32) = sym (stands_u64 _ e2 small.2) in
+    let numbers = words_bytes (source_words epoch spans_offset spans_length) in
+    let content = content_stands own_kind 40 _ (stands_as (source_are disk epoch spans_offset spans_length) s) in
+    let to : place + 8 + length disk ≡ place + 8 + 16 = omega arith in
+    let there = words_there file (place + 8) 16 (source_words epoch spans_offset spans_length) small (stands_at to (stands_right disk numbers content)) in
+    let is_disk : disk ≡ reading file (place + 8) 16 = sym (stands_left disk numbers content).read ∙ ap (reading file (place + 8)) long in
     let next : place + 48 ≡ place + 8 + 40 = omega arith in
     record {
-      listed = (
-        record {
-          inside = omega arith;
-          kind = sym (first_u32 _ _ s0 (omega arith));
-          some = λ z. omega arith;
-          place = refl;
-          length = sym (first_u32 _ _ s1 (omega arith));
-          whole = omega arith;
-        },
-        subst (λ (k : ℕ). AreExtensions file end k es) next listed,
-      );
+      listed = (source_stands end disk epoch spans_offset spans_length s inside, subst (λ (k : ℕ). AreExtensions file end k es) next listed);
       says = cc;
       well = well;
     }
@@ -121,27 +118,10 @@ target_says : (part : Part) (file : List ℕ) (end place : ℕ) (bytes : List �
     place + 72 ≤ end → AreExtensions file end (place + 72) es → is_bad_own part (own_extension place (owns.Target bytes)) ≡ false →
     SaysOwn part file end place (owns.Target bytes) es
 target_says part file end place bytes es long s inside listed well =
-    let s0 = stands_as (target_nested bytes) s in
-    let s1 = past_u32 _ _ s0 in
-    let to : place + 4 + 4 ≡ place + 8 = omega arith in
-    let s2 = stands_at to (past_u32 _ _ s1) in
-    let is_record : bytes ≡ reading file (place + 8) 64 = sym s2.read ∙ ap (reading file (place + 8)) long in
+    let content = content_stands own_kind 64 _ (stands_as (target_are bytes) s) in
+    let is_record : bytes ≡ reading file (place + 8) 64 = sym content.read ∙ ap (reading file (place + 8)) long in
     let next : place + 72 ≡ place + 8 + 64 = omega arith in
-    record {
-      listed = (
-        record {
-          inside = omega arith;
-          kind = sym (first_u32 _ _ s0 (omega arith));
-          some = λ z. omega arith;
-          place = refl;
-          length = sym (first_u32 _ _ s1 (omega arith));
-          whole = omega arith;
-        },
-        subst (λ (k : ℕ). AreExtensions file end k es) next listed,
-      );
-      says = ap owns.Target is_record;
-      well = well;
-    }
+    record { listed = (target_stands end bytes s inside, subst (λ (k : ℕ). AreExtensions file end k es) next listed); says = ap owns.Target is_record; well = well }
 
 absent_says : (part : Part) (file : List ℕ) (end place : ℕ) (es : List Extension) → AreExtensions file end (place + length (own_bytes owns.Absent)) es → SaysOwn part file end place owns.Absent es
 absent_says part file end place es listed =
@@ -205,15 +185,14 @@ own_kept_length place (owns.Target bytes) es = refl
 
 abbrev pub bitmaps_extension : ℕ → Option DirPlace → Option Extension
 bitmaps_extension place None = None
-bitmaps_extension place (Some dir) = Some (record { kind = bitmaps_kind; place = place + 8; length = 24 })
+bitmaps_extension place (Some dir) = Some (extension_at bitmaps_kind place 24)
 
-bitmaps_nested : (dir : DirPlace) → bitmaps_bytes (Some dir) ≡ word32 bitmaps_kind ++ (word32 24 ++ (word32 dir.count ++ (word32 0 ++ (word64 dir.size ++ word64 dir.offset))))
-unfolding word32 word64 bitmaps_bytes
-bitmaps_nested dir = refl
+bitmaps_are : (dir : DirPlace) → bitmaps_bytes (Some dir) ≡ words_bytes (head_words bitmaps_kind 24) ++ words_bytes (bitmaps_words dir)
+unfolding bitmaps_bytes
+bitmaps_are dir = refl
 
 pub length-bitmaps : (dir : DirPlace) → length (bitmaps_bytes (Some dir)) ≡ 32
-unfolding bitmaps_bytes
-length-bitmaps dir = refl
+length-bitmaps dir = ap length (bitmaps_are dir) ∙ omega (arith, length-append {A = ℕ}, length-words)
 
 pub record SaysBitmaps (file : List ℕ) (bits end place : ℕ) (bitmaps : Option DirPlace) (es : List Extension) : Type 0 where
   pub listed : AreExtensions file end place (in_front (bitmaps_extension place bitmaps) es)
@@ -228,32 +207,16 @@ bitmaps_say file bits end place None es are small s inside listed =
     record { listed = subst (λ (k : ℕ). AreExtensions file end k es) same listed; says = refl; well = refl }
 bitmaps_say file bits end place (Some dir) es are small s inside listed =
     let long = length-bitmaps dir in
-    let s0 = stands_as (bitmaps_nested dir) s in
-    let s1 = past_u32 _ _ s0 in
-    let to : place + 4 + 4 ≡ place + 8 = omega arith in
-    let s2 = stands_at to (past_u32 _ _ s1) in
-    let s3 = past_u32 _ _ s2 in
-    let to_size : place + 8 + 4 + 4 ≡ place + 8 + 8 = omega arith in
-    let s4 = stands_at to_size (past_u32 _ _ s3) in
-    let to_offset : place + 8 + 8 + 8 ≡ place + 8 + 16 = omega arith in
-    let s5 = stands_at to_offset (past_u64 _ _ s4) in
-    let is_count : u32_at file (place + 8) ≡ dir.count = first_u32 _ _ s2 small.0 in
-    let is_zero : u32_at file (place + 8 + 4) ≡ 0 = first_u32 _ _ s3 (omega arith) in
-    let is_size : u64_at file (place + 8 + 8) ≡ dir.size = first_u64 _ _ s4 small.1 in
-    let is_offset : u64_at file (place + 8 + 16) ≡ dir.offset = stands_u64 _ s5 small.2 in
+    let whole = stands_as (bitmaps_are dir) s in
+    let here : place + 8 + 0 ≡ place + 8 = omega arith in
+    let there = words_there file (place + 8) 0 (bitmaps_words dir) small (stands_at (sym here) (content_stands bitmaps_kind 24 _ whole)) in
+    let is_count : u32_at file (place + 8) ≡ dir.count = ap (u32_at file) (sym here) ∙ there.0 in
+    let is_zero : u32_at file (place + 8 + 4) ≡ 0 = there.1.0 in
+    let is_size : u64_at file (place + 8 + 8) ≡ dir.size = there.1.1.0 in
+    let is_offset : u64_at file (place + 8 + 16) ≡ dir.offset = there.1.1.1.0 in
     let next : place + length (bitmaps_bytes (Some dir)) ≡ place + 8 + 24 = omega arith in
     record {
-      listed = (
-        record {
-          inside = omega arith;
-          kind = sym (first_u32 _ _ s0 (omega arith));
-          some = λ z. omega arith;
-          place = refl;
-          length = sym (first_u32 _ _ s1 (omega arith));
-          whole = omega arith;
-        },
-        subst (λ (k : ℕ). AreExtensions file end k es) next listed,
-      );
+      listed = (head_stands end bitmaps_kind 24 _ whole (omega arith) (λ z. omega arith) (omega arith) (omega arith), subst (λ (k : ℕ). AreExtensions file end k es) next listed);
       says = sym (rw (is_offset, is_size, is_count) refl);
       well =
           ap (λ (k : ℕ). nat_lt 0 k || (u32_at file (place + 8) == 0) || not (is_place bits (u64_at file (place + 8 + 16)))) is_zero
@@ -262,10 +225,6 @@ bitmaps_say file bits end place (Some dir) es are small s inside listed =
           ∙ ap (λ (k : ℕ). not (is_place bits k)) is_offset
           ∙ ap not are.1;
     }
-
-pub bitmaps_short : (bitmaps : Option DirPlace) → length (bitmaps_bytes bitmaps) ≤ 32
-bitmaps_short None = omega (arith, ap length no_bitmaps_bytes)
-bitmaps_short (Some dir) = omega (arith, length-bitmaps dir)
 
 pub bitmaps_found : (place : ℕ) (bitmaps : Option DirPlace) (es : List Extension) → first_of_kind bitmaps_kind es ≡ None → first_of_kind bitmaps_kind (in_front (bitmaps_extension place bitmaps) es) ≡ bitmaps_extension place bitmaps
 bitmaps_found place None es none = none

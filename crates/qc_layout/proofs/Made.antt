@@ -26,7 +26,7 @@ made_of part file es h numbers listed rules made = record {
     extensions = es;
     listed = listed;
     rules = rules;
-    kept = made.kept ∙ ap (λ (n : ℕ). tail_of file n ++ kept_bytes file es) (sym made.fields.header_length);
+    kept = made.kept ∙ ap (λ (f : Fields). tail_of file f.header_length ++ kept_bytes file es) (sym made.fields);
     bitmaps = made.bitmaps;
     own = made.own;
   };

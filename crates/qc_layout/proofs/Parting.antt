@@ -1,17 +1,16 @@
 -- As what a file is read of which it isn't known what it is.
-use Rattle.std.proofs.Common.{◌≡◌, inl, inr, ℕ, ◌+◌, ◌-◌, ◌*◌, ◌^◌, ◌<◌, ◌≤◌, min, List, [], ◌∷◌, Some, refl, sym, ap, subst, ◌∙◌, arith}
-use Rattle.std.proofs.lemmas.Bool.{cases_lt}
+use Rattle.std.proofs.Common.{◌≡◌, inl, inr, ℕ, ◌+◌, ◌-◌, ◌*◌, ◌^◌, ◌<◌, ◌≤◌, ◌≢◌, min, Bool, false, List, [], ◌∷◌, Option, Some, None, refl, sym, ap, subst, ◌∙◌, arith}
+use Rattle.std.specs.Prelude.{◌==◌, if◌then◌else◌}
+use Rattle.std.proofs.lemmas.Bool.{cases_lt, eq-eqb, ne_eqb}
 use Rattle.std.proofs.lemmas.Nat.{pow-add, pow_pos}
 use Rattle.disk_model.specs.Files.{u32_at}
 use Rattle.qc_layout.specs.declared.extension.Extension.{Extension}
 use Rattle.qc_layout.specs.declared.header.Part.{Part}
 use Rattle.qc_layout.specs.declared.header.Part.TheVariants as parts
 use Rattle.qc_layout.specs.Header.{fields_of}
-use Rattle.qc_layout.specs.Extensions.{AreExtensions, first_of_kind, list_end, own_kind}
-use Rattle.qc_layout.specs.Disks.{IsReadAs, bits_of}
-use Rattle.qc_layout.specs.Reading.{IsKind}
-use Rattle.qc_layout.specs.Spelling.{AreIn}
-use Rattle.qc_layout.proofs.Listing.{one_listing}
+use Rattle.qc_layout.specs.Extensions.{IsExtension, StandInRow, behind, first_of_kind, list_end, own_kind}
+use Rattle.qc_layout.specs.Disks.{IsBackupFrom, IsBackup, IsReadAs, bits_of}
+use Rattle.qc_layout.proofs.Listing.{one_extension}
 
 -- ---- the list's end
 
@@ -44,31 +43,58 @@ header_at file = refl
 
 -- ---- what the list says
 
--- a list that would begin past its end is empty
-past_end : (file : List ℕ) (end from : ℕ) (es : List Extension) → end ≤ from → AreExtensions file end from es → es ≡ []
-past_end file end from [] past are = refl
-past_end file end from (e ∷ es) past are = let i = are.0.inside in absurd (omega arith)
+-- the list from here on decides
+pub record Decides (file : List ℕ) (end at : ℕ) : Type 0 where
+  pub goes_on : IsBackupFrom file end at → IsBackup file
+  pub comes : IsBackup file → IsBackupFrom file end at
 
-pub long_source : (file : List ℕ) (end from : ℕ) → end ≡ list_end (bits_of file) → from ≡ u32_at file 100 → 65536 < from → IsReadAs file parts.Source
-long_source file end from ends starts long = λ backup.
-    let none = past_end file (list_end (bits_of file)) (fields_of file).header_length backup.0 (omega (arith, header_at file)) backup.2 in
-    let first : first_of_kind own_kind [] ≡ Some backup.1 = subst (λ (l : List Extension). first_of_kind own_kind l ≡ Some backup.1) none backup.3 in
+-- from its start
+pub decides_first : (file : List ℕ) (end at : ℕ) → end ≡ list_end (bits_of file) → at ≡ u32_at file 100 → Decides file end at
+decides_first file end at ends starts =
+    subst (λ (n : ℕ). Decides file n at) (sym ends)
+    (subst (Decides file (list_end (bits_of file))) (sym (starts ∙ sym (header_at file))) (record { goes_on = λ is. is; comes = λ is. is }))
+
+-- a list in which something is found begins with an extension
+first_stands : (file : List ℕ) (end at : ℕ) (es : List Extension) (x : Extension) → StandInRow file end at es → first_of_kind own_kind es ≡ Some x → (e : Extension) × IsExtension file end at e
+first_stands file end at [] x row first = absurd cc
+first_stands file end at (e ∷ es) x row first = (e, row.0)
+
+behind_first : (file : List ℕ) (end at : ℕ) (e : Extension) (es : List Extension) (x : Extension) → IsExtension file end at e → (e.kind == own_kind) ≡ false →
+    StandInRow file end at es → first_of_kind own_kind es ≡ Some x → (rest : List Extension) × StandInRow file end (behind e) rest × (first_of_kind own_kind rest ≡ Some x)
+behind_first file end at e [] x is other row first = absurd cc
+behind_first file end at e (y ∷ ys) x is other row first =
+    let same = one_extension file end at y e row.0 is in
+    let skipped = ap (λ (z : Extension). if z.kind == own_kind then Some z else first_of_kind own_kind ys) same ∙ ap (λ (t : Bool). if t then Some e else first_of_kind own_kind ys) other in
+    (ys, subst (λ (z : Extension). StandInRow file end (behind z) ys) same row.1, sym skipped ∙ first)
+
+-- from behind one that isn't this project's
+pub decides_behind : (file : List ℕ) (end at next : ℕ) (e : Extension) → Decides file end at → IsExtension file end at e → e.kind ≢ own_kind → next ≡ behind e → Decides file end next
+decides_behind file end at next e before is ne on =
+    let other = ne_eqb e.kind own_kind ne in
+    subst (Decides file end) (sym on)
+    (record {
+      goes_on = λ backup. before.goes_on (e ∷ backup.0, backup.1, (is, backup.2), ap (λ (t : Bool). if t then Some e else first_of_kind own_kind backup.0) other ∙ backup.3, backup.4);
+      comes = λ backup. let here = before.comes backup in let rest = behind_first file end at e here.0 here.1 is other here.2 here.3 in (rest.0, here.1, rest.1, rest.2, here.4);
+    })
+
+-- where none stands it is a disk
+pub none_source : (file : List ℕ) (end at : ℕ) → Decides file end at → ((e : Extension) → IsExtension file end at e → ⊥) → IsReadAs file parts.Source
+none_source file end at before none = λ backup. let here = before.comes backup in let e = first_stands file end at here.0 here.1 here.2 here.3 in none e.0 e.1
+
+-- and at this project's its length says it
+own_length : (file : List ℕ) (end at : ℕ) (e : Extension) (es : List Extension) (x : Extension) → IsExtension file end at e → e.kind ≡ own_kind →
+    StandInRow file end at es → first_of_kind own_kind es ≡ Some x → x ≡ e
+own_length file end at e [] x is own row first = absurd cc
+own_length file end at e (y ∷ ys) x is own row first =
+    let same = one_extension file end at y e row.0 is in
+    let found = ap (λ (z : Extension). if z.kind == own_kind then Some z else first_of_kind own_kind ys) same ∙ ap (λ (t : Bool). if t then Some e else first_of_kind own_kind ys) (eq-eqb e.kind own_kind own) in
     cc
 
--- these are the file's
-pub listed_in : (file : List ℕ) (end from : ℕ) (es : List Extension) → end ≡ list_end (bits_of file) → from ≡ u32_at file 100 → AreExtensions file end from es → AreIn file es
-listed_in file end from es ends starts are =
-    subst (λ (k : ℕ). AreExtensions file k (fields_of file).header_length es) ends
-    (subst (λ (k : ℕ). AreExtensions file end k es) (starts ∙ sym (header_at file)) are)
+pub own_target : (file : List ℕ) (end at : ℕ) (e : Extension) → Decides file end at → IsExtension file end at e → e.kind ≡ own_kind → e.length ≡ 64 → IsReadAs file parts.Target
+own_target file end at e before is own long = before.goes_on (e ∷ [], e, (is, tt), ap (λ (t : Bool). if t then Some e else None) (eq-eqb e.kind own_kind own), long)
 
-pub broken_source : (file : List ℕ) (end from : ℕ) → end ≡ list_end (bits_of file) → from ≡ u32_at file 100 → ((es : List Extension) → AreExtensions file end from es → ⊥) → IsReadAs file parts.Source
-broken_source file end from ends starts broken = λ backup.
-    broken backup.0
-    (subst (λ (k : ℕ). AreExtensions file end k backup.0) (sym (starts ∙ sym (header_at file)))
-    (subst (λ (k : ℕ). AreExtensions file k (fields_of file).header_length backup.0) (sym ends) backup.2))
-
-pub kind_read : (file : List ℕ) (es : List Extension) (part : Part) → AreIn file es → IsKind es part → IsReadAs file part
-kind_read file es parts.Target are is = (es, is.0, are, is.1, is.2)
-kind_read file es parts.Source are is = λ backup.
-    is backup.1 (subst (λ (l : List Extension). first_of_kind own_kind l ≡ Some backup.1) (one_listing file (list_end (bits_of file)) (fields_of file).header_length backup.0 es backup.2 are) backup.3) backup.4
-kind_read file es parts.Foreign are is = absurd is
+pub own_source : (file : List ℕ) (end at : ℕ) (e : Extension) → Decides file end at → IsExtension file end at e → e.kind ≡ own_kind → e.length ≢ 64 → IsReadAs file parts.Source
+own_source file end at e before is own other = λ backup.
+    let here = before.comes backup in
+    let same = own_length file end at e here.0 here.1 is own here.2 here.3 in
+    other (ap (λ (z : Extension). z.length) (sym same) ∙ here.4)

@@ -1,9 +1,10 @@
 -- Steps that write behind one another.
-use Rattle.std.proofs.Common.{◌≡◌, inl, inr, ℕ, ◌+◌, ◌-◌, min, List, [], ◌++◌, length, take, drop, replicate, sym, ap, ◌∙◌, subst, arith, append_assoc, length-append}
+use Rattle.std.proofs.Common.{◌≡◌, inl, inr, ℕ, ◌+◌, ◌-◌, min, List, [], ◌∷◌, ◌++◌, length, take, drop, replicate, sym, ap, ◌∙◌, subst, arith, append_assoc, length-append}
 use Rattle.std.proofs.lemmas.List.{append-nil, drop-replicate, drop_all}
 use Rattle.std.proofs.lemmas.Bool.{cases_lt}
 use Rattle.std.proofs.Math.Seq.{take-append_seam, drop-append-add}
-use Rattle.qc_layout.specs.Spelling.{Puts, sector_with}
+use Rattle.qc_layout.specs.declared.writing.Word.{Word}
+use Rattle.qc_layout.specs.Spelling.{Puts, sector_with, word_bytes, words_bytes, IsSmallWord, AreSmallWords}
 
 -- nothing is written
 pub puts_none : (bytes old : List ℕ) (place : ℕ) → bytes ≡ [] → Puts bytes old place old place
@@ -55,3 +56,17 @@ drop_least n l = elim (cases_lt n (length l)) [
   | inl less ↦ (let same : min n (length l) ≡ n = omega arith in ap (λ (k : ℕ). drop k l) same)
   | inr more ↦ (let same : min n (length l) ≡ length l = omega arith in ap (λ (k : ℕ). drop k l) same ∙ drop_all (length l) l (omega arith) ∙ sym (drop_all n l more))
 ]
+
+-- ---- numbers
+
+-- what is still to be written goes on to all
+pub record PutsOn (words rest : List Word) (old : List ℕ) (place : ℕ) (now : List ℕ) (at : ℕ) : Type 0 where
+  pub puts : (new : List ℕ) (end : ℕ) → Puts (words_bytes rest) now at new end → Puts (words_bytes words) old place new end
+  pub small : AreSmallWords rest → AreSmallWords words
+
+pub puts_next : (words : List Word) (w : Word) (rest : List Word) (old now next : List ℕ) (place at end : ℕ) → PutsOn words (w ∷ rest) old place now at → Puts (word_bytes w) now at next end → IsSmallWord w
+    → PutsOn words rest old place next end
+puts_next words w rest old now next place at end before step small = record {
+  puts = λ new last more. before.puts new last (puts_on step more);
+  small = λ are. before.small (small, are);
+}

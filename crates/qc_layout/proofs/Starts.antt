@@ -14,10 +14,10 @@ use Rattle.qc_layout.specs.declared.header.Part.{Part}
 use Rattle.qc_layout.specs.declared.header.Part.TheVariants as parts
 use Rattle.qc_layout.specs.declared.header.HeaderFault.{HeaderFault}
 use Rattle.qc_layout.specs.Header.{first_of, fields_of, number_fault, is_place}
-use Rattle.qc_layout.specs.Extensions.{IsEnd, IsExtension, AreExtensions, behind, padded, list_end, extension_rules, is_bad_bitmaps, is_bad_own, is_kept, bytes_of, kept_bytes, tail_of, bitmaps_in, own_in, first_of_kind, bitmaps_kind, own_kind}
+use Rattle.qc_layout.specs.Extensions.{IsEnd, IsExtension, StandInRow, AreExtensions, behind, padded, list_end, extension_rules, is_bad_bitmaps, is_bad_own, is_kept, bytes_of, kept_bytes, tail_of, bitmaps_in, own_in, first_of_kind, bitmaps_kind, own_kind}
 use Rattle.qc_layout.specs.Disks as disks
 use Rattle.qc_layout.specs.Disks.{IsBackup, IsReadAs}
-use Rattle.qc_layout.specs.Spelling.{HasFields, AreIn, IsHeaderOf, IsFault}
+use Rattle.qc_layout.specs.Spelling.{AreIn, IsHeaderOf, IsFault}
 use Rattle.qc_layout.specs.Laws.{BeginAlike, start_length, start_of}
 use Rattle.qc_layout.proofs.Passing.{Passes, all_pass, numbers_pass}
 
@@ -247,17 +247,17 @@ header_from_start part a b h alike is =
     let pass = numbers_pass part (length a) (fields_of a) s.numbers in
     let rules = all_pass (extension_rules part a (fields_of a) es) s.rules in
     let sector = alike_sector a b alike in
-    let long : h.header_length ≤ 504 = (let e = s.fields.header_length in let l = pass.length_high in omega arith) in
+    let long : h.fields.header_length ≤ 504 = (let e = ap (λ (f : Fields). f.header_length) s.fields in let l = pass.length_high in omega arith) in
     record {
       spells = record {
         numbers = sym (alike_numbers part a b alike) ∙ s.numbers;
-        fields = subst (HasFields h) (alike_fields a b alike) s.fields;
+        fields = s.fields ∙ alike_fields a b alike;
         extensions = es;
         listed = alike_in a b es alike s.listed;
         rules = sym (alike_rules part a b es alike s.listed) ∙ s.rules;
         kept = s.kept
-            ∙ ap (λ (l : List ℕ). l ++ kept_bytes a es) (alike_reading a b 112 (h.header_length - 112) alike (omega arith))
-            ∙ ap (λ (l : List ℕ). tail_of b h.header_length ++ l) (in_kept a b (length a) es alike pass s.listed);
+            ∙ ap (λ (l : List ℕ). l ++ kept_bytes a es) (alike_reading a b 112 (h.fields.header_length - 112) alike (omega arith))
+            ∙ ap (λ (l : List ℕ). tail_of b h.fields.header_length ++ l) (in_kept a b (length a) es alike pass s.listed);
         bitmaps = s.bitmaps ∙ alike_bitmaps a b (fields_of a).cluster_bits (first_of_kind bitmaps_kind es) alike (first_in a b bitmaps_kind es alike s.listed) rules.1.1.0;
         own = s.own ∙ alike_own part a b (first_of_kind own_kind es) alike (first_in a b own_kind es alike s.listed) rules.1.1.1.1.0;
       };
@@ -282,8 +282,14 @@ passes_from_start part a b alike is = record {
 
 -- ---- as what a file is read
 
+alike_row : {n : ℕ} (a b : List ℕ) (end from : ℕ) (es : List Extension) → BeginAlike n a b → end ≤ n → StandInRow a end from es → StandInRow b end from es
+alike_row a b end from [] alike small row = tt
+alike_row a b end from (e ∷ es) alike small row = (alike_extension a b end from e alike small row.0, alike_row a b end (behind e) es alike small row.1)
+
 alike_backup : {n : ℕ} (a b : List ℕ) → BeginAlike n a b → IsBackup a → IsBackup b
-alike_backup a b alike is = (is.0, is.1, alike_in a b is.0 alike is.2, is.3, is.4)
+alike_backup a b alike is =
+    let row : StandInRow b (list_end (fields_of a).cluster_bits) (fields_of a).header_length is.0 = alike_row a b (list_end (fields_of a).cluster_bits) (fields_of a).header_length is.0 alike (alike_list a b alike) is.2 in
+    (is.0, is.1, subst (λ (f : Fields). StandInRow b (list_end f.cluster_bits) f.header_length is.0) (alike_fields a b alike) row, is.3, is.4)
 
 pub read_as_from_start : {n : ℕ} (part : Part) (a b : List ℕ) → BeginAlike n a b → IsReadAs a part → IsReadAs b part
 read_as_from_start parts.Target a b alike is = alike_backup a b alike is

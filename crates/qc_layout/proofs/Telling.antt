@@ -13,9 +13,9 @@ use Rattle.qc_layout.specs.declared.header.Header.{Header}
 use Rattle.qc_layout.specs.Header.{fields_of, number_fault, first_of, has_bit}
 use Rattle.qc_layout.specs.Extensions.{list_end, IsExtension, AreExtensions, extension_rules, first_of_kind, count_of, kept_length, own_in, backing_kind, bitmaps_kind, own_kind, is_bad_bitmaps, is_bad_own, is_there}
 use Rattle.qc_layout.specs.Disks.{Passes, HasExtension}
-use Rattle.qc_layout.specs.Spelling.{be32, IsHeaderOf, AreIn, number_bytes, tail_bytes, tail_length, kept_part, own_bytes, bitmaps_bytes, Fits, fields_in, IsSmall, IsOwnOf}
+use Rattle.qc_layout.specs.Spelling.{be32, IsHeaderOf, AreIn, words_bytes, number_words, tail_bytes, tail_length, kept_part, own_bytes, bitmaps_bytes, Fits, IsSmall, IsOwnOf}
 use Rattle.qc_layout.proofs.Standing.{Stands, stands_at, stands_as, stands_left, stands_right, inner_u32}
-use Rattle.qc_layout.proofs.WrittenNumbers.{fields_written, length-number_bytes}
+use Rattle.qc_layout.proofs.WrittenNumbers.{fields_written, length-words}
 use Rattle.qc_layout.proofs.Words.{no_bitmaps_bytes, header_parts}
 use Rattle.qc_layout.proofs.RuleLaws.{ArePassed, are_passed, passed_in, no_fault, false_or}
 use Rattle.qc_layout.proofs.Listing.{one_listing}
@@ -28,11 +28,11 @@ extension_of kind place length = record { kind = kind; place = place; length = l
 -- ---- what a file tells
 
 pub record Tells (part : Part) (file : List ℕ) (h : Header) : Type 0 where
-  pub fields : fields_of file ≡ fields_in h
-  pub numbers : number_fault part (length file) (fields_in h) ≡ None
+  pub fields : fields_of file ≡ h.fields
+  pub numbers : number_fault part (length file) h.fields ≡ None
   pub extensions : List Extension
-  pub listed : AreExtensions file (list_end h.cluster_bits) h.header_length extensions
-  pub rules : first_of (extension_rules part file (fields_in h) extensions) ≡ None
+  pub listed : AreExtensions file (list_end h.fields.cluster_bits) h.fields.header_length extensions
+  pub rules : first_of (extension_rules part file h.fields extensions) ≡ None
   pub says : h.own ≡ own_in file (first_of_kind own_kind extensions)
 
 pub tells_passes : (part : Part) (file : List ℕ) (h : Header) → Tells part file h → Passes part file
@@ -46,7 +46,7 @@ tells_passes part file h t = record {
 -- these are all of its extensions
 told_list : (part : Part) (file : List ℕ) (h : Header) (t : Tells part file h) (es : List Extension) → AreIn file es → es ≡ t.extensions
 told_list part file h t es listed =
-    one_listing file (list_end h.cluster_bits) h.header_length es t.extensions (subst (λ (f : Fields). AreExtensions file (list_end f.cluster_bits) f.header_length es) t.fields listed) t.listed
+    one_listing file (list_end h.fields.cluster_bits) h.fields.header_length es t.extensions (subst (λ (f : Fields). AreExtensions file (list_end f.cluster_bits) f.header_length es) t.fields listed) t.listed
 
 -- whoever reads a header of it finds this of the project's own
 pub tells_own : (part : Part) (file : List ℕ) (h read : Header) → Tells part file h → IsHeaderOf part file read → read.own ≡ h.own
@@ -60,34 +60,34 @@ tells_own part file h read t is =
 -- it has 112 bytes, speaks of no bitmaps, and its numbers pass
 pub record IsNew (part : Part) (h : Header) : Type 0 where
   pub small : IsSmall h
-  pub numbers : number_fault part 512 (fields_in h) ≡ None
-  pub header_length : h.header_length ≡ 112
+  pub numbers : number_fault part 512 h.fields ≡ None
+  pub header_length : h.fields.header_length ≡ 112
   pub bitmaps : h.bitmaps ≡ None
-  pub autoclear : has_bit 0 h.autoclear_features ≡ false
+  pub autoclear : has_bit 0 h.fields.autoclear_features ≡ false
   pub own : IsOwnOf part h.own
   pub short : length h.kept.items.items ≤ 279
 
-no_tail : (h : Header) → h.header_length ≡ 112 → tail_length h ≡ 0
+no_tail : (h : Header) → h.fields.header_length ≡ 112 → tail_length h ≡ 0
 no_tail h is = omega arith
 
-new_kept : (h : Header) → h.header_length ≡ 112 → kept_part h ≡ h.kept.items.items
+new_kept : (h : Header) → h.fields.header_length ≡ 112 → kept_part h ≡ h.kept.items.items
 new_kept h is = ap (λ (n : ℕ). drop n h.kept.items.items) (no_tail h is)
 
-new_long : (part : Part) (h : Header) → IsNew part h → 104 + length (tail_bytes h) ≡ h.header_length
+new_long : (part : Part) (h : Header) → IsNew part h → 104 + length (tail_bytes h) ≡ h.fields.header_length
 new_long part h new =
     let is = new.header_length in
-    tail_long h (are_passed part 512 (fields_in h) new.numbers) (omega arith)
+    tail_long h (are_passed part 512 h.fields new.numbers) (omega arith)
 
 no_bitmaps : (part : Part) (h : Header) → IsNew part h → length (bitmaps_bytes h.bitmaps) ≡ 0
 no_bitmaps part h new = ap length (ap bitmaps_bytes new.bitmaps ∙ no_bitmaps_bytes)
 
 pub new_fits : (part : Part) (h : Header) → IsNew part h → Fits h
 new_fits part h new =
-    let numbers = number_bytes h in
+    let numbers = words_bytes (number_words h.fields) in
     let tail = tail_bytes h in
     let own = own_bytes h.own in
     let bitmaps = bitmaps_bytes h.bitmaps in
-    let l0 = length-number_bytes h in
+    let l0 = length-words (number_words h.fields) in
     let l1 = length-append numbers tail in
     let l2 = length-append (numbers ++ tail) own in
     let l3 = length-append (numbers ++ tail ++ own) bitmaps in
@@ -116,8 +116,8 @@ record StandsBehind (file : List ℕ) (h : Header) : Type 0 where
   pub room : behind_own h + length h.kept.items.items + 8 ≤ 512
 
 module _ (part : Part) (h : Header) (file : List ℕ) (new : IsNew part h) (begins : BeginsWith file h) where
-  passed : ArePassed (fields_in h)
-  passed = are_passed part 512 (fields_in h) new.numbers
+  passed : ArePassed h.fields
+  passed = are_passed part 512 h.fields new.numbers
 
   placed : ArePlaced file h
   placed = are_placed file h (new_long part h new) begins
@@ -128,19 +128,19 @@ module _ (part : Part) (h : Header) (file : List ℕ) (new : IsNew part h) (begi
       let none = no_bitmaps part h new in
       let room = placed.room in
       let same = new_kept h new.header_length in
-      let at : h.header_length + length (own_bytes h.own) + length (bitmaps_bytes h.bitmaps) ≡ behind_own h = omega arith in
-      let end : h.header_length + length (own_bytes h.own) + length (bitmaps_bytes h.bitmaps) + length (kept_part h) ≡ behind_own h + length h.kept.items.items = omega (arith, ap length same) in
+      let at : h.fields.header_length + length (own_bytes h.own) + length (bitmaps_bytes h.bitmaps) ≡ behind_own h = omega arith in
+      let end : h.fields.header_length + length (own_bytes h.own) + length (bitmaps_bytes h.bitmaps) + length (kept_part h) ≡ behind_own h + length h.kept.items.items = omega (arith, ap length same) in
       record {
         kept = stands_at at (stands_as same placed.kept);
         zero = ap (u32_at file) (sym end) ∙ placed.zero;
         room = omega arith;
       }
 
-  told : (more : List Extension) → AreOthers more → AreExtensions file (list_end h.cluster_bits) (behind_own h) more → Tells part file h
+  told : (more : List Extension) → AreOthers more → AreExtensions file (list_end h.fields.cluster_bits) (behind_own h) more → Tells part file h
   told more others listed =
       let is_fields = fields_written file h new.small.numbers placed.numbers (compression_at file h placed.tail) passed.no_compression in
-      let end = list_end h.cluster_bits in
-      let sector : 512 ≤ end = sector_in h.cluster_bits passed.bits in
+      let end = list_end h.fields.cluster_bits in
+      let sector : 512 ≤ end = sector_in h.fields.cluster_bits passed.bits in
       let room = stand_behind.room in
       let is = new.header_length in
       let own = own_says part file end 112 h.own more new.own new.small.own (stands_at is placed.own) (omega arith) (omega arith) listed in
@@ -152,15 +152,15 @@ module _ (part : Part) (h : Header) (file : List ℕ) (new : IsNew part h) (begi
       let count : kept_length all ≡ 0 = own_kept_length 112 h.own more ∙ others.none_kept in
       record {
         fields = is_fields;
-        numbers = passed_in part 512 (length file) (fields_in h) (omega (arith, begins.long)) new.numbers;
+        numbers = passed_in part 512 (length file) h.fields (omega (arith, begins.long)) new.numbers;
         extensions = all;
         listed = subst (λ (n : ℕ). AreExtensions file end n all) (sym is) own.listed;
-        rules = no_fault (extension_rules part file (fields_in h) all) (
+        rules = no_fault (extension_rules part file h.fields all) (
           false_or (nat_lt 1 (count_of bitmaps_kind all)) (nat_lt 1 (count_of own_kind all)) (le-ltb _ _ one_bitmaps) (le-ltb _ _ one_own),
           (
             le-ltb _ _ (omega arith),
             (
-              ap (is_bad_bitmaps h.cluster_bits file) found_bitmaps,
+              ap (is_bad_bitmaps h.fields.cluster_bits file) found_bitmaps,
               (
                 ap (λ (t : Bool). t && not (is_there (first_of_kind bitmaps_kind all))) new.autoclear,
                 (ap (is_bad_own part) found_own ∙ own.well, tt),
@@ -174,7 +174,7 @@ module _ (part : Part) (h : Header) (file : List ℕ) (new : IsNew part h) (begi
   -- nothing is kept
   pub bare_tells : h.kept.items.items ≡ [] → Tells part file h
   bare_tells none =
-      let sector : 512 ≤ list_end h.cluster_bits = sector_in h.cluster_bits passed.bits in
+      let sector : 512 ≤ list_end h.fields.cluster_bits = sector_in h.fields.cluster_bits passed.bits in
       let room = stand_behind.room in
       told [] (record { no_bitmaps = refl; no_own = refl; count_bitmaps = refl; count_own = refl; none_kept = refl })
       (inr (omega arith, (let end : behind_own h + length h.kept.items.items ≡ behind_own h = omega (arith, ap length none) in ap (u32_at file) (sym end) ∙ stand_behind.zero)))
@@ -219,12 +219,12 @@ module _ (part : Part) (h : Header) (file name : List ℕ) (new : IsNew part h) 
   words : Stands file (behind_own h) format_words
   words = stands_left format_words name stand
 
-  enough : behind_own h + 24 + length name + 8 ≤ list_end h.cluster_bits
+  enough : behind_own h + 24 + length name + 8 ≤ list_end h.fields.cluster_bits
   enough =
-      let sector : 512 ≤ list_end h.cluster_bits = sector_in h.cluster_bits (passed part h file new begins).bits in
+      let sector : 512 ≤ list_end h.fields.cluster_bits = sector_in h.fields.cluster_bits (passed part h file new begins).bits in
       omega (arith, (stand_behind part h file new begins).room, ap length keeps, length-append format_words name)
 
-  is_backing : IsExtension file (list_end h.cluster_bits) (behind_own h) (extension_of backing_kind (behind_own h + 8) 5)
+  is_backing : IsExtension file (list_end h.fields.cluster_bits) (behind_own h) (extension_of backing_kind (behind_own h + 8) 5)
   is_backing =
       let here : behind_own h + 0 ≡ behind_own h = omega arith in
       record {
@@ -236,7 +236,7 @@ module _ (part : Part) (h : Header) (file name : List ℕ) (new : IsNew part h) 
         whole = omega (arith, enough);
       }
 
-  listed : AreExtensions file (list_end h.cluster_bits) (behind_own h) (extension_of backing_kind (behind_own h + 8) 5 ∷ [])
+  listed : AreExtensions file (list_end h.fields.cluster_bits) (behind_own h) (extension_of backing_kind (behind_own h + 8) 5 ∷ [])
   listed =
       let next : behind_own h + 8 + 8 ≡ behind_own h + 16 = omega arith in
       (is_backing, inr (omega (arith, enough), ap (u32_at file) next ∙ sym (inner_u32 words 16 (omega arith)) ∙ format_end))

@@ -17,13 +17,13 @@ use Rattle.qc_layout.specs.declared.header.Fields.{Fields}
 use Rattle.qc_layout.specs.declared.header.Header.{Header}
 use Rattle.qc_layout.specs.Header.{fields_of, number_fault, first_of, has_bit, is_disk, is_place}
 use Rattle.qc_layout.specs.Extensions.{list_end, IsEnd, AreExtensions, extension_rules, first_of_kind, count_of, kept_bytes, kept_length, tail_of, bitmaps_in, own_in, place_in, bitmaps_kind, own_kind, is_bad_bitmaps, is_bad_own, is_there}
-use Rattle.qc_layout.specs.Spelling.{HasFields, Spells, IsHeaderOf, number_bytes, tail_bytes, tail_length, kept_part, own_bytes, bitmaps_bytes, header_bytes, Fits, sector_of, fields_in, joined, IsSmall, IsWritable, AreBitmaps, has_bitmaps, IsOwnOf, own_place}
+use Rattle.qc_layout.specs.Spelling.{Spells, words_bytes, number_words, tail_bytes, tail_length, kept_part, own_bytes, bitmaps_bytes, header_bytes, Fits, sector_of, joined, IsSmall, IsWritable, AreBitmaps, has_bitmaps, IsOwnOf}
 use Rattle.qc_layout.proofs.Standing.{Stands, stands_at, stands_as, stands_left, stands_right, inner_u32, zeros_u32}
-use Rattle.qc_layout.proofs.WrittenNumbers.{fields_written, length-number_bytes}
+use Rattle.qc_layout.proofs.WrittenNumbers.{fields_written, length-words}
 use Rattle.qc_layout.proofs.Words.{no_tail_bytes, no_bitmaps_bytes, tail_words, header_parts}
 use Rattle.qc_layout.proofs.RuleLaws.{ArePassed, are_passed, passed_in, none_fails, no_fault, or_false, false_or}
 use Rattle.qc_layout.proofs.Blocks.{as_extensions, blocks_listed, blocks_bytes, blocks_length, blocks_no_bitmaps, blocks_no_own, blocks_count_bitmaps, blocks_count_own, blocks_of, are_blocks, kept_joined, kept_long}
-use Rattle.qc_layout.proofs.Heads.{in_front, own_short, own_of_disk_short, bitmaps_short, source_kind, target_kind, own_extension, own_says, own_found, own_no_bitmaps, own_count, own_count_bitmaps, own_kept, own_kept_length, bitmaps_extension, bitmaps_say, bitmaps_found, bitmaps_no_own, bitmaps_count, bitmaps_count_own, bitmaps_kept, bitmaps_kept_length, bitmaps_there}
+use Rattle.qc_layout.proofs.Heads.{in_front, own_extension, own_says, own_found, own_no_bitmaps, own_count, own_count_bitmaps, own_kept, own_kept_length, bitmaps_extension, bitmaps_say, bitmaps_found, bitmaps_no_own, bitmaps_count, bitmaps_count_own, bitmaps_kept, bitmaps_kept_length, bitmaps_there}
 
 -- the file begins with the header's sector
 pub record BeginsWith (file : List ℕ) (h : Header) : Type 0 where
@@ -34,26 +34,26 @@ pub record BeginsWith (file : List ℕ) (h : Header) : Type 0 where
 -- ---- where the parts stand
 
 -- a header's bytes up to its end
-pub tail_long : (h : Header) → ArePassed (fields_in h) → tail_length h ≤ length h.kept.items.items → 104 + length (tail_bytes h) ≡ h.header_length
-tail_long h passed inside = elim (cases_lt 104 h.header_length) [
+pub tail_long : (h : Header) → ArePassed h.fields → tail_length h ≤ length h.kept.items.items → 104 + length (tail_bytes h) ≡ h.fields.header_length
+tail_long h passed inside = elim (cases_lt 104 h.fields.header_length) [
   | inl long ↦ (let whole = passed.eights in
       let from = passed.from_104 in
-      omega (arith, ap length (tail_words h long), length-append (h.compression_type ∷ 0 ∷ 0 ∷ 0 ∷ 0 ∷ 0 ∷ 0 ∷ 0 ∷ []) (take (tail_length h) h.kept.items.items), length-take (tail_length h) h.kept.items.items))
+      omega (arith, ap length (tail_words h long), length-append (h.fields.compression_type ∷ 0 ∷ 0 ∷ 0 ∷ 0 ∷ 0 ∷ 0 ∷ 0 ∷ []) (take (tail_length h) h.kept.items.items), length-take (tail_length h) h.kept.items.items))
   | inr short ↦ (let from = passed.from_104 in omega (arith, ap length (no_tail_bytes h short)))
 ]
 
 pub record ArePlaced (file : List ℕ) (h : Header) : Type 0 where
-  pub numbers : Stands file 0 (number_bytes h)
+  pub numbers : Stands file 0 (words_bytes (number_words h.fields))
   pub tail : Stands file 104 (tail_bytes h)
-  pub own : Stands file h.header_length (own_bytes h.own)
-  pub bitmaps : Stands file (h.header_length + length (own_bytes h.own)) (bitmaps_bytes h.bitmaps)
-  pub kept : Stands file (h.header_length + length (own_bytes h.own) + length (bitmaps_bytes h.bitmaps)) (kept_part h)
-  pub room : h.header_length + length (own_bytes h.own) + length (bitmaps_bytes h.bitmaps) + length (kept_part h) + 8 ≤ 512
-  pub zero : u32_at file (h.header_length + length (own_bytes h.own) + length (bitmaps_bytes h.bitmaps) + length (kept_part h)) ≡ 0
+  pub own : Stands file h.fields.header_length (own_bytes h.own)
+  pub bitmaps : Stands file (h.fields.header_length + length (own_bytes h.own)) (bitmaps_bytes h.bitmaps)
+  pub kept : Stands file (h.fields.header_length + length (own_bytes h.own) + length (bitmaps_bytes h.bitmaps)) (kept_part h)
+  pub room : h.fields.header_length + length (own_bytes h.own) + length (bitmaps_bytes h.bitmaps) + length (kept_part h) + 8 ≤ 512
+  pub zero : u32_at file (h.fields.header_length + length (own_bytes h.own) + length (bitmaps_bytes h.bitmaps) + length (kept_part h)) ≡ 0
 
-pub are_placed : (file : List ℕ) (h : Header) → 104 + length (tail_bytes h) ≡ h.header_length → BeginsWith file h → ArePlaced file h
+pub are_placed : (file : List ℕ) (h : Header) → 104 + length (tail_bytes h) ≡ h.fields.header_length → BeginsWith file h → ArePlaced file h
 are_placed file h long begins =
-    let numbers = number_bytes h in
+    let numbers = words_bytes (number_words h.fields) in
     let tail = tail_bytes h in
     let own = own_bytes h.own in
     let bitmaps = bitmaps_bytes h.bitmaps in
@@ -61,7 +61,7 @@ are_placed file h long begins =
     let zeros : List ℕ = replicate (512 - length (header_bytes h)) 0 in
     let fits : length (header_bytes h) + 8 ≤ 512 = begins.fits in
     let parts : header_bytes h ≡ numbers ++ tail ++ own ++ bitmaps ++ kept = sym (header_parts h) in
-    let l0 = length-number_bytes h in
+    let l0 = length-words (number_words h.fields) in
     let l1 = length-append numbers tail in
     let l2 = length-append (numbers ++ tail) own in
     let l3 = length-append (numbers ++ tail ++ own) bitmaps in
@@ -74,7 +74,7 @@ are_placed file h long begins =
     let s2 = stands_left (numbers ++ tail ++ own) bitmaps s3 in
     let s1 = stands_left (numbers ++ tail) own s2 in
     let last = stands_right (header_bytes h) zeros sector in
-    let end : 0 + length (header_bytes h) + 0 ≡ h.header_length + length own + length bitmaps + length kept = omega arith in
+    let end : 0 + length (header_bytes h) + 0 ≡ h.fields.header_length + length own + length bitmaps + length kept = omega arith in
     let count = length-replicate {A = ℕ} (512 - length (header_bytes h)) 0 in
     record {
       numbers = stands_left numbers tail s1;
@@ -91,26 +91,26 @@ pub sector_in : (bits : ℕ) → 9 ≤ bits → 512 ≤ list_end bits
 sector_in bits from = let more : 2 ^ 9 ≤ 2 ^ bits = pow-le-pow_right {n = 2} (omega arith) from in omega arith
 
 -- the compression type
-pub compression_at : (file : List ℕ) (h : Header) → Stands file 104 (tail_bytes h) → 104 < h.header_length → byte file 104 ≡ h.compression_type
+pub compression_at : (file : List ℕ) (h : Header) → Stands file 104 (tail_bytes h) → 104 < h.fields.header_length → byte file 104 ≡ h.fields.compression_type
 compression_at file h s long =
-    let first = h.compression_type ∷ 0 ∷ 0 ∷ 0 ∷ 0 ∷ 0 ∷ 0 ∷ 0 ∷ [] in
+    let first = h.fields.compression_type ∷ 0 ∷ 0 ∷ 0 ∷ 0 ∷ 0 ∷ 0 ∷ 0 ∷ [] in
     let words = tail_words h long in
     let some = length-append first (take (tail_length h) h.kept.items.items) in
     sym (byte-reading file 104 (length (tail_bytes h)) 0 (omega (arith, ap length words)))
     ∙ ap (λ (l : List ℕ). byte l 0) (s.read ∙ sym words)
 
 -- what a longer header has behind it
-tail_at : (file : List ℕ) (h : Header) → ArePassed (fields_in h) → tail_length h ≤ length h.kept.items.items → Stands file 104 (tail_bytes h) →
-    tail_of file h.header_length ≡ take (tail_length h) h.kept.items.items
-tail_at file h passed inside s = elim (cases_lt 104 h.header_length) [
+tail_at : (file : List ℕ) (h : Header) → ArePassed h.fields → tail_length h ≤ length h.kept.items.items → Stands file 104 (tail_bytes h) →
+    tail_of file h.fields.header_length ≡ take (tail_length h) h.kept.items.items
+tail_at file h passed inside s = elim (cases_lt 104 h.fields.header_length) [
   | inl long ↦ (
-      let first = h.compression_type ∷ 0 ∷ 0 ∷ 0 ∷ 0 ∷ 0 ∷ 0 ∷ 0 ∷ [] in
+      let first = h.fields.compression_type ∷ 0 ∷ 0 ∷ 0 ∷ 0 ∷ 0 ∷ 0 ∷ 0 ∷ [] in
       let rest = take (tail_length h) h.kept.items.items in
-      let count : length rest ≡ h.header_length - 112 = omega (arith, length-take (tail_length h) h.kept.items.items) in
+      let count : length rest ≡ h.fields.header_length - 112 = omega (arith, length-take (tail_length h) h.kept.items.items) in
       let behind = stands_right first rest (stands_as (sym (tail_words h long)) s) in
       ap (reading file 112) (sym count) ∙ behind.read)
   | inr short ↦ (
-      let none : h.header_length - 112 ≡ 0 = omega arith in
+      let none : h.fields.header_length - 112 ≡ 0 = omega arith in
       ap (reading file 112) none ∙ no_bytes (reading file 112 0) (length-reading file 112 0) ∙ ap (λ (k : ℕ). take k h.kept.items.items) (sym none))
 ]
   where
@@ -120,44 +120,23 @@ tail_at file h passed inside s = elim (cases_lt 104 h.header_length) [
 
 -- ---- what is written spells the header
 
-pub same_numbers : (h : Header) → HasFields h (fields_in h)
-same_numbers h = record {
-  backing_file_offset = refl;
-  backing_file_size = refl;
-  cluster_bits = refl;
-  size = refl;
-  crypt_method = refl;
-  l1_size = refl;
-  l1_table_offset = refl;
-  refcount_table_offset = refl;
-  refcount_table_clusters = refl;
-  nb_snapshots = refl;
-  snapshots_offset = refl;
-  incompatible_features = refl;
-  compatible_features = refl;
-  autoclear_features = refl;
-  refcount_order = refl;
-  header_length = refl;
-  compression_type = refl;
-}
-
 pub writable_spelled : (part : Part) (h : Header) (written : List ℕ) → IsWritable part h → BeginsWith written h → Spells part written h
 writable_spelled part h written w begins =
-    let passed = are_passed part 512 (fields_in h) w.numbers in
+    let passed = are_passed part 512 h.fields w.numbers in
     let placed = are_placed written h (tail_long h passed w.tail) begins in
     let room = placed.room in
     let is = fields_written written h w.small.numbers placed.numbers (compression_at written h placed.tail) passed.no_compression in
-    let end = list_end h.cluster_bits in
-    let sector : 512 ≤ end = sector_in h.cluster_bits passed.bits in
-    let p1 = h.header_length in
-    let p2 = h.header_length + length (own_bytes h.own) in
-    let p3 = h.header_length + length (own_bytes h.own) + length (bitmaps_bytes h.bitmaps) in
+    let end = list_end h.fields.cluster_bits in
+    let sector : 512 ≤ end = sector_in h.fields.cluster_bits passed.bits in
+    let p1 = h.fields.header_length in
+    let p2 = h.fields.header_length + length (own_bytes h.own) in
+    let p3 = h.fields.header_length + length (own_bytes h.own) + length (bitmaps_bytes h.bitmaps) in
     let long = ap length w.kept in
     let last : IsEnd written end (p3 + length (joined w.blocks)) = inr (omega arith, ap (λ (l : List ℕ). u32_at written (p3 + length l)) (sym w.kept) ∙ placed.zero) in
     let kept = as_extensions p3 w.blocks in
     let stand = stands_as w.kept placed.kept in
     let kept_listed = blocks_listed written end p3 w.blocks w.unknown stand (omega arith) last in
-    let bitmaps = bitmaps_say written h.cluster_bits end p2 h.bitmaps kept w.bitmaps w.small.bitmaps placed.bitmaps (omega arith) kept_listed in
+    let bitmaps = bitmaps_say written h.fields.cluster_bits end p2 h.bitmaps kept w.bitmaps w.small.bitmaps placed.bitmaps (omega arith) kept_listed in
     let more = in_front (bitmaps_extension p2 h.bitmaps) kept in
     let own = own_says part written end p1 h.own more w.own w.small.own placed.own (omega arith) (omega arith) bitmaps.listed in
     let all = in_front (own_extension p1 h.own) more in
@@ -174,19 +153,19 @@ writable_spelled part h written w begins =
     own_kept_length p1 h.own more ∙ bitmaps_kept_length p2 h.bitmaps kept ∙ blocks_length p3 w.blocks w.unknown ∙ sym long in
     let little = w.room in
     record {
-      numbers = subst (λ (f : Fields). number_fault part (length written) f ≡ None) (sym is) (passed_in part 512 (length written) (fields_in h) (omega (arith, begins.long)) w.numbers);
-      fields = subst (HasFields h) (sym is) (same_numbers h);
+      numbers = subst (λ (f : Fields). number_fault part (length written) f ≡ None) (sym is) (passed_in part 512 (length written) h.fields (omega (arith, begins.long)) w.numbers);
+      fields = sym is;
       extensions = all;
       listed = subst (λ (f : Fields). AreExtensions written (list_end f.cluster_bits) f.header_length all) (sym is) own.listed;
-      rules = subst (λ (f : Fields). first_of (extension_rules part written f all) ≡ None) (sym is) (no_fault (extension_rules part written (fields_in h) all) (
+      rules = subst (λ (f : Fields). first_of (extension_rules part written f all) ≡ None) (sym is) (no_fault (extension_rules part written h.fields all) (
         false_or (nat_lt 1 (count_of bitmaps_kind all)) (nat_lt 1 (count_of own_kind all)) (le-ltb _ _ one_bitmaps) (le-ltb _ _ one_own),
         (
           le-ltb _ _ (omega arith),
           (
-            ap (is_bad_bitmaps h.cluster_bits written) found_bitmaps ∙ bitmaps.well,
+            ap (is_bad_bitmaps h.fields.cluster_bits written) found_bitmaps ∙ bitmaps.well,
             (
-              ap (λ (o : Option Extension). has_bit 0 h.autoclear_features && not (is_there o)) found_bitmaps
-                  ∙ ap (λ (t : Bool). has_bit 0 h.autoclear_features && not t) (bitmaps_there p2 h.bitmaps) ∙ w.autoclear,
+              ap (λ (o : Option Extension). has_bit 0 h.fields.autoclear_features && not (is_there o)) found_bitmaps
+                  ∙ ap (λ (t : Bool). has_bit 0 h.fields.autoclear_features && not t) (bitmaps_there p2 h.bitmaps) ∙ w.autoclear,
               (ap (is_bad_own part) found_own ∙ own.well, tt),
             ),
           ),
@@ -194,16 +173,12 @@ writable_spelled part h written w begins =
       ));
       kept = sym (take-append-drop (tail_length h) h.kept.items.items)
           ∙ ap (λ (l : List ℕ). l ++ kept_part h) (sym (tail_at written h passed w.tail placed.tail))
-          ∙ ap (λ (l : List ℕ). tail_of written h.header_length ++ l) (sym bytes);
+          ∙ ap (λ (l : List ℕ). tail_of written h.fields.header_length ++ l) (sym bytes);
       bitmaps = bitmaps.says ∙ ap (bitmaps_in written) (sym found_bitmaps);
       own = own.says ∙ ap (own_in written) (sym found_own);
     }
 
 -- ---- a header that some file spells can be written
-
-same_fields : (f : Fields) (h : Header) → f.magic ≡ 0x514649fb → f.version ≡ 3 → HasFields h f → f ≡ fields_in h
-same_fields f h magic version has =
-    sym (rw (has.backing_file_offset, has.backing_file_size, has.cluster_bits, has.size, has.crypt_method, has.l1_size, has.l1_table_offset, has.refcount_table_offset, has.refcount_table_clusters, has.nb_snapshots, has.snapshots_offset, has.incompatible_features, has.compatible_features, has.autoclear_features, has.refcount_order, has.header_length, has.compression_type, ← magic, ← version) refl)
 
 bitmaps_well : (bits : ℕ) (file : List ℕ) (o : Option Extension) → is_bad_bitmaps bits file o ≡ false → AreBitmaps bits (bitmaps_in file o)
 bitmaps_well bits file None well = tt
@@ -237,27 +212,27 @@ spelled_writable part h file small s =
     let f = fields_of file in
     let es = s.extensions in
     let passed = are_passed part (length file) f s.numbers in
-    let same = same_fields f h passed.magic passed.version s.fields in
+    let same : f ≡ h.fields = sym s.fields in
     let rules = none_fails (extension_rules part file f es) s.rules in
-    let count : length (tail_of file h.header_length) ≡ tail_length h = length-reading file 112 (h.header_length - 112) in
+    let count : length (tail_of file h.fields.header_length) ≡ tail_length h = length-reading file 112 (h.fields.header_length - 112) in
     let part_is : kept_part h ≡ kept_bytes file es =
     ap (λ (l : List ℕ). drop (tail_length h) l) s.kept
-    ∙ ap (λ (k : ℕ). drop k (tail_of file h.header_length ++ kept_bytes file es)) (sym count)
-    ∙ drop-append_seam (tail_of file h.header_length) (kept_bytes file es) in
+    ∙ ap (λ (k : ℕ). drop k (tail_of file h.fields.header_length ++ kept_bytes file es)) (sym count)
+    ∙ drop-append_seam (tail_of file h.fields.header_length) (kept_bytes file es) in
     let room : f.header_length + kept_length es + 48 + 32 + 8 ≤ 512 = ltb-false _ _ rules.1.0 in
-    let is_length = s.fields.header_length in
+    let is_length = ap (λ (g : Fields). g.header_length) s.fields in
     let well : AreBitmaps f.cluster_bits h.bitmaps = subst (AreBitmaps f.cluster_bits) (sym s.bitmaps) (bitmaps_well f.cluster_bits file (first_of_kind bitmaps_kind es) rules.1.1.0) in
     record {
       small = small;
       numbers = subst (λ (g : Fields). number_fault part 512 g ≡ None) same (passed_in part (length file) 512 f (omega arith) s.numbers);
-      tail = omega (arith, ap length s.kept, length-append (tail_of file h.header_length) (kept_bytes file es));
+      tail = omega (arith, ap length s.kept, length-append (tail_of file h.fields.header_length) (kept_bytes file es));
       blocks = blocks_of file es;
       unknown = are_blocks file (list_end f.cluster_bits) f.header_length es s.listed;
       kept = part_is ∙ kept_joined file es;
       room = omega (arith, ap length part_is, kept_long file es);
-      bitmaps = subst (λ (k : ℕ). AreBitmaps k h.bitmaps) (sym s.fields.cluster_bits) well;
+      bitmaps = subst (λ (g : Fields). AreBitmaps g.cluster_bits h.bitmaps) same well;
       autoclear =
-          ap (λ (k : ℕ). has_bit 0 k && not (has_bitmaps h.bitmaps)) s.fields.autoclear_features
+          ap (λ (g : Fields). has_bit 0 g.autoclear_features && not (has_bitmaps h.bitmaps)) s.fields
           ∙ ap (λ (o : Option DirPlace). has_bit 0 f.autoclear_features && not (has_bitmaps o)) s.bitmaps
           ∙ ap (λ (t : Bool). has_bit 0 f.autoclear_features && not t) (sym (bitmaps_found_there file (first_of_kind bitmaps_kind es)))
           ∙ rules.1.1.1.0;
@@ -268,113 +243,3 @@ spelled_writable part h file small s =
 
 pub written_again : (part : Part) (h : Header) (file written : List ℕ) → IsSmall h → Spells part file h → BeginsWith written h → Spells part written h
 written_again part h file written small s begins = writable_spelled part h written (spelled_writable part h file small s) begins
-
--- ---- what fits
-
-header_long : (part : Part) (h : Header) → IsWritable part h →
-    length (header_bytes h) ≡ h.header_length + length (own_bytes h.own) + length (bitmaps_bytes h.bitmaps) + length (kept_part h)
-header_long part h w =
-    let numbers = number_bytes h in
-    let tail = tail_bytes h in
-    let own = own_bytes h.own in
-    let bitmaps = bitmaps_bytes h.bitmaps in
-    omega (
-      arith,
-      ap length (header_parts h),
-      tail_long h (are_passed part 512 (fields_in h) w.numbers) w.tail,
-      length-number_bytes h,
-      length-append numbers tail,
-      length-append (numbers ++ tail) own,
-      length-append (numbers ++ tail ++ own) bitmaps,
-      length-append (numbers ++ tail ++ own ++ bitmaps) (kept_part h),
-    )
-
--- A header of a disk fits into its sector, of whatever form its extensions are. One of a backup, whose record is longer, may not.
-pub disk_fits : (part : Part) (h : Header) → is_disk part ≡ true → IsWritable part h → Fits h
-disk_fits part h disk w =
-    let room = w.room in
-    omega (arith, header_long part h w, own_of_disk_short part h.own disk w.own, bitmaps_short h.bitmaps)
-
--- ---- where this project's extension stands
-
--- where a kind stands first in the list, it is the first of its kind
-own_first : (file : List ℕ) (end from : ℕ) (es : List Extension) → u32_at file from ≡ own_kind → from + 8 ≤ end → AreExtensions file end from es → place_in (first_of_kind own_kind es) ≡ from + 8
-own_first file end from [] kind inside listed = ⊎_elim (λ out. absurd (omega arith)) (λ none. let zero = none.1 in absurd (omega arith)) listed
-own_first file end from (e ∷ es) kind inside listed =
-    ap (λ (t : Bool). place_in (if t then Some e else first_of_kind own_kind es)) (eq-eqb e.kind own_kind (listed.0.kind ∙ kind)) ∙ listed.0.place
-
--- what says nothing isn't there
-told_some : (t : Bool) (file : List ℕ) (e : Extension) → owns.Absent ≡ told_own t file e → ⊥
-told_some true file e says = absurd cc
-told_some false file e says = absurd cc
-
-own_nowhere : (file : List ℕ) (o : Option Extension) → owns.Absent ≡ own_in file o → place_in o ≡ 0
-own_nowhere file None says = refl
-own_nowhere file (Some e) says = absurd (told_some (e.length == 40) file e says)
-
-own_found_at : (file : List ℕ) (end place : ℕ) (own : Own) (es : List Extension) → Stands file place (own_bytes own) → place + 8 ≤ end → AreExtensions file end place es →
-    own ≡ own_in file (first_of_kind own_kind es) → place_in (first_of_kind own_kind es) ≡ own_place place own
-own_found_at file end place owns.Absent es s inside listed says = own_nowhere file (first_of_kind own_kind es) says
-own_found_at file end place (owns.Source disk epoch spans_offset spans_length) es s inside listed says = own_first file end place es (source_kind disk epoch spans_offset spans_length s) inside listed
-own_found_at file end place (owns.Target bytes) es s inside listed says = own_first file end place es (target_kind bytes s) inside listed
-
--- It stands first of all extensions that the sector has.
-pub own_stands : (part : Part) (h : Header) (written : List ℕ) (s : Spells part written h) → BeginsWith written h →
-    place_in (first_of_kind own_kind s.extensions) ≡ own_place h.header_length h.own
-own_stands part h written s begins =
-    let f = fields_of written in
-    let passed = are_passed part (length written) f s.numbers in
-    let same = same_fields f h passed.magic passed.version s.fields in
-    let inside : tail_length h ≤ length h.kept.items.items =
-    omega (arith, ap length s.kept, length-append (tail_of written h.header_length) (kept_bytes written s.extensions), length-reading written 112 (h.header_length - 112)) in
-    let placed = are_placed written h (tail_long h (subst ArePassed same passed) inside) begins in
-    let room = placed.room in
-    let sector = sector_in f.cluster_bits passed.bits in
-    own_found_at written (list_end f.cluster_bits) h.header_length h.own s.extensions placed.own (omega arith)
-    (subst (λ (k : ℕ). AreExtensions written (list_end f.cluster_bits) k s.extensions) (sym s.fields.header_length) s.listed)
-    s.own
-
--- so a header that knows this place is that of the file
-pub header_again : (part : Part) (h : Header) (written : List ℕ) → Spells part written h → BeginsWith written h → h.own_at ≡ own_place h.header_length h.own → IsHeaderOf part written h
-header_again part h written s begins at_own = record { spells = s; own_at = at_own ∙ sym (own_stands part h written s begins) }
-
--- ---- a header that is made anew
-
--- it has 112 bytes, keeps nothing, and speaks of no bitmaps
-pub record IsMade (part : Part) (h : Header) : Type 0 where
-  pub small : IsSmall h
-  pub numbers : number_fault part 512 (fields_in h) ≡ None
-  pub header_length : h.header_length ≡ 112
-  pub kept : h.kept.items.items ≡ []
-  pub bitmaps : h.bitmaps ≡ None
-  pub autoclear : has_bit 0 h.autoclear_features ≡ false
-  pub own : IsOwnOf part h.own
-
-made_kept : (part : Part) (h : Header) → IsMade part h → kept_part h ≡ []
-made_kept part h made = ap (drop (tail_length h)) made.kept ∙ drop-nil (tail_length h)
-
-pub made_writable : (part : Part) (h : Header) → IsMade part h → IsWritable part h
-made_writable part h made =
-    let long = made.header_length in
-    record {
-      small = made.small;
-      numbers = made.numbers;
-      tail = omega arith;
-      blocks = [];
-      unknown = tt;
-      kept = made_kept part h made;
-      room = omega (arith, ap length (made_kept part h made));
-      bitmaps = subst (AreBitmaps h.cluster_bits) (sym made.bitmaps) tt;
-      autoclear = ap (λ (t : Bool). t && not (has_bitmaps h.bitmaps)) made.autoclear;
-      own = made.own;
-    }
-
-pub made_fits : (part : Part) (h : Header) → IsMade part h → Fits h
-made_fits part h made =
-    let is = made.header_length in
-    let none = ap length (ap bitmaps_bytes made.bitmaps ∙ no_bitmaps_bytes) in
-    omega (arith, header_long part h (made_writable part h made), own_short part h.own made.own, ap length (made_kept part h made))
-
-pub made_spelled : (part : Part) (h : Header) (written : List ℕ) → IsMade part h → 512 ≤ length written → reading written 0 512 ≡ sector_of h → Spells part written h
-made_spelled part h written made long sector =
-    writable_spelled part h written (made_writable part h made) (record { fits = made_fits part h made; long = long; sector = sector })

@@ -9,7 +9,7 @@ use Rattle.qc_layout.specs.declared.header.Part.{Part}
 use Rattle.qc_layout.specs.declared.header.Part.TheVariants as parts
 use Rattle.qc_layout.specs.Entries.{l1_of, l2_of}
 use Rattle.qc_layout.specs.Header.{fields_of, number_fault, first_of}
-use Rattle.qc_layout.specs.Extensions.{extension_rules, first_of_kind, own_kind}
+use Rattle.qc_layout.specs.Extensions.{StandInRow, list_end, extension_rules, first_of_kind, own_kind}
 use Rattle.qc_layout.specs.Spelling.{AreIn}
 
 -- the file passes each rule of a header
@@ -23,9 +23,13 @@ pub record Passes (part : Part) (file : List ℕ) : Type 0 where
 abbrev pub HasExtension : List ℕ → ℕ → List ℕ → Type 0
 HasExtension file kind content = (es : List Extension) → AreIn file es → (e : Extension) × (first_of_kind kind es ≡ Some e) × (reading file e.place e.length ≡ content)
 
--- a backup: this project's extension is there, with 64 bytes
+-- This project's extension stands in the list from here on, as far as that can be read, and has 64 bytes: it is the first of its kind.
+abbrev pub IsBackupFrom : List ℕ → ℕ → ℕ → Type 0
+IsBackupFrom file end from = (es : List Extension) × (e : Extension) × StandInRow file end from es × (first_of_kind own_kind es ≡ Some e) × (e.length ≡ 64)
+
+-- a backup, whether its list breaks behind that or not
 abbrev pub IsBackup : List ℕ → Type 0
-IsBackup file = (es : List Extension) × (e : Extension) × AreIn file es × (first_of_kind own_kind es ≡ Some e) × (e.length ≡ 64)
+IsBackup file = IsBackupFrom file (list_end (fields_of file).cluster_bits) (fields_of file).header_length
 
 -- as what a file is read of which it isn't known what it is
 abbrev pub IsReadAs : List ℕ → Part → Type 0

@@ -51,7 +51,12 @@ pub record IsExtension (file : List ℕ) (end from : ℕ) (e : Extension) : Type
 abbrev pub behind : Extension → ℕ
 behind e = e.place + padded e.length
 
--- these stand in a row from here on, up to the list's end
+-- these stand in a row from here on
+abbrev pub StandInRow : List ℕ → ℕ → ℕ → List Extension → Type 0
+StandInRow file end from [] = Unit {0}
+StandInRow file end from (e ∷ es) = IsExtension file end from e × StandInRow file end (behind e) es
+
+-- and up to the list's end
 abbrev pub AreExtensions : List ℕ → ℕ → ℕ → List Extension → Type 0
 AreExtensions file end from [] = IsEnd file end from
 AreExtensions file end from (e ∷ es) = IsExtension file end from e × AreExtensions file end (behind e) es

@@ -24,23 +24,7 @@ FaultOrHeader = (part : Part) (file : List ℕ) (h : Header) (fault : HeaderFaul
 
 -- two headers say the same
 pub record SameHeader (h g : Header) : Type 0 where
-  pub backing_file_offset : h.backing_file_offset ≡ g.backing_file_offset
-  pub backing_file_size : h.backing_file_size ≡ g.backing_file_size
-  pub cluster_bits : h.cluster_bits ≡ g.cluster_bits
-  pub size : h.size ≡ g.size
-  pub crypt_method : h.crypt_method ≡ g.crypt_method
-  pub l1_size : h.l1_size ≡ g.l1_size
-  pub l1_table_offset : h.l1_table_offset ≡ g.l1_table_offset
-  pub refcount_table_offset : h.refcount_table_offset ≡ g.refcount_table_offset
-  pub refcount_table_clusters : h.refcount_table_clusters ≡ g.refcount_table_clusters
-  pub nb_snapshots : h.nb_snapshots ≡ g.nb_snapshots
-  pub snapshots_offset : h.snapshots_offset ≡ g.snapshots_offset
-  pub incompatible_features : h.incompatible_features ≡ g.incompatible_features
-  pub compatible_features : h.compatible_features ≡ g.compatible_features
-  pub autoclear_features : h.autoclear_features ≡ g.autoclear_features
-  pub refcount_order : h.refcount_order ≡ g.refcount_order
-  pub header_length : h.header_length ≡ g.header_length
-  pub compression_type : h.compression_type ≡ g.compression_type
+  pub fields : h.fields ≡ g.fields
   pub kept : h.kept.items.items ≡ g.kept.items.items
   pub bitmaps : h.bitmaps ≡ g.bitmaps
   pub own : h.own ≡ g.own

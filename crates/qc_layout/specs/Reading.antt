@@ -5,10 +5,7 @@ use Rattle.qc_layout.specs.declared.extension.Next.{Next}
 use Rattle.qc_layout.specs.declared.extension.Next.TheVariants.{End, Broken, Whole}
 use Rattle.qc_layout.specs.declared.header.Fields.{Fields}
 use Rattle.qc_layout.specs.declared.header.Header.{Header}
-use Rattle.qc_layout.specs.declared.header.Part.{Part}
-use Rattle.qc_layout.specs.declared.header.Part.TheVariants as parts
 use Rattle.qc_layout.specs.Extensions.{IsEnd, IsExtension, first_of_kind, kept_bytes, tail_of, bitmaps_in, own_in, place_in, bitmaps_kind, own_kind}
-use Rattle.qc_layout.specs.Spelling.{HasFields}
 
 -- what stands at a place of the list
 abbrev pub IsNext : List ℕ → ℕ → ℕ → Next → Type 0
@@ -27,14 +24,8 @@ IsNearIfThere (Some e) = IsNear e
 
 -- the header has these numbers, and says what these extensions say
 pub record IsMade (file : List ℕ) (f : Fields) (es : List Extension) (h : Header) : Type 0 where
-  pub fields : HasFields h f
+  pub fields : h.fields ≡ f
   pub kept : h.kept.items.items ≡ tail_of file f.header_length ++ kept_bytes file es
   pub bitmaps : h.bitmaps ≡ bitmaps_in file (first_of_kind bitmaps_kind es)
   pub own : h.own ≡ own_in file (first_of_kind own_kind es)
   pub own_at : h.own_at ≡ place_in (first_of_kind own_kind es)
-
--- as what a file with these extensions is read
-abbrev pub IsKind : List Extension → Part → Type 0
-IsKind es parts.Target = (e : Extension) × (first_of_kind own_kind es ≡ Some e) × (e.length ≡ 64)
-IsKind es parts.Source = (e : Extension) → first_of_kind own_kind es ≡ Some e → e.length ≡ 64 → ⊥
-IsKind es parts.Foreign = ⊥

@@ -9,31 +9,13 @@ use Rattle.qc_layout.specs.declared.header.Own.TheVariants as owns
 use Rattle.qc_layout.specs.declared.header.Part.{Part}
 use Rattle.qc_layout.specs.declared.header.Part.TheVariants as parts
 use Rattle.qc_layout.specs.declared.header.Fields.{Fields}
+use Rattle.qc_layout.specs.declared.writing.Word.{Word}
+use Rattle.qc_layout.specs.declared.writing.Word.TheVariants.{Four, Eight}
 use Rattle.qc_layout.specs.declared.header.Header.{Header}
 use Rattle.qc_layout.specs.declared.header.HeaderFault.{HeaderFault}
 use Rattle.qc_layout.specs.declared.header.HeaderFault.TheVariants.{Extensions}
 use Rattle.qc_layout.specs.Header.{fields_of, number_fault, first_of, has_bit, is_place}
 use Rattle.qc_layout.specs.Extensions.{list_end, AreExtensions, extension_rules, first_of_kind, kept_bytes, tail_of, bitmaps_in, own_in, place_in, padded, backing_kind, names_kind, bitmaps_kind, own_kind}
-
--- the header has these numbers
-pub record HasFields (h : Header) (f : Fields) : Type 0 where
-  pub backing_file_offset : h.backing_file_offset ≡ f.backing_file_offset
-  pub backing_file_size : h.backing_file_size ≡ f.backing_file_size
-  pub cluster_bits : h.cluster_bits ≡ f.cluster_bits
-  pub size : h.size ≡ f.size
-  pub crypt_method : h.crypt_method ≡ f.crypt_method
-  pub l1_size : h.l1_size ≡ f.l1_size
-  pub l1_table_offset : h.l1_table_offset ≡ f.l1_table_offset
-  pub refcount_table_offset : h.refcount_table_offset ≡ f.refcount_table_offset
-  pub refcount_table_clusters : h.refcount_table_clusters ≡ f.refcount_table_clusters
-  pub nb_snapshots : h.nb_snapshots ≡ f.nb_snapshots
-  pub snapshots_offset : h.snapshots_offset ≡ f.snapshots_offset
-  pub incompatible_features : h.incompatible_features ≡ f.incompatible_features
-  pub compatible_features : h.compatible_features ≡ f.compatible_features
-  pub autoclear_features : h.autoclear_features ≡ f.autoclear_features
-  pub refcount_order : h.refcount_order ≡ f.refcount_order
-  pub header_length : h.header_length ≡ f.header_length
-  pub compression_type : h.compression_type ≡ f.compression_type
 
 -- the extensions of a file, by its header's numbers
 abbrev pub AreIn : List ℕ → List Extension → Type 0
@@ -43,11 +25,11 @@ AreIn file es = AreExtensions file (list_end (fields_of file).cluster_bits) (fie
 -- this project's extension.
 pub record Spells (part : Part) (file : List ℕ) (h : Header) : Type 0 where
   pub numbers : number_fault part (length file) (fields_of file) ≡ None
-  pub fields : HasFields h (fields_of file)
+  pub fields : h.fields ≡ fields_of file
   pub extensions : List Extension
   pub listed : AreIn file extensions
   pub rules : first_of (extension_rules part file (fields_of file) extensions) ≡ None
-  pub kept : h.kept.items.items ≡ tail_of file h.header_length ++ kept_bytes file extensions
+  pub kept : h.kept.items.items ≡ tail_of file h.fields.header_length ++ kept_bytes file extensions
   pub bitmaps : h.bitmaps ≡ bitmaps_in file (first_of_kind bitmaps_kind extensions)
   pub own : h.own ≡ own_in file (first_of_kind own_kind extensions)
 
@@ -71,38 +53,90 @@ be32 n = to_be_bytes w32 n
 abbrev pub be64 : ℕ → List ℕ
 be64 n = to_be_bytes w64 n
 
--- its numbers, in 104 bytes
-unfoldable pub number_bytes : Header → List ℕ
-number_bytes h =
-    be32 0x514649fb ++ be32 3 ++ be64 h.backing_file_offset ++ be32 h.backing_file_size ++ be32 h.cluster_bits ++ be64 h.size
-    ++ be32 h.crypt_method ++ be32 h.l1_size ++ be64 h.l1_table_offset ++ be64 h.refcount_table_offset ++ be32 h.refcount_table_clusters
-    ++ be32 h.nb_snapshots ++ be64 h.snapshots_offset ++ be64 h.incompatible_features ++ be64 h.compatible_features
-    ++ be64 h.autoclear_features ++ be32 h.refcount_order ++ be32 h.header_length
+-- a number in four bytes, and in eight
+unfoldable pub word32 : ℕ → List ℕ
+word32 n = be32 n
+
+unfoldable pub word64 : ℕ → List ℕ
+word64 n = be64 n
+
+abbrev pub word_bytes : Word → List ℕ
+word_bytes (Four n) = word32 n
+word_bytes (Eight n) = word64 n
+
+abbrev pub words_bytes : List Word → List ℕ
+words_bytes [] = []
+words_bytes (w ∷ ws) = word_bytes w ++ words_bytes ws
+
+-- each number is one that its word holds
+abbrev pub IsSmallWord : Word → Type 0
+IsSmallWord (Four n) = n < 2 ^ 32
+IsSmallWord (Eight n) = n < 2 ^ 64
+
+abbrev pub AreSmallWords : List Word → Type 0
+AreSmallWords [] = Unit {0}
+AreSmallWords (w ∷ ws) = IsSmallWord w × AreSmallWords ws
+
+-- the numbers of a header, in 104 bytes
+abbrev pub number_words : Fields → List Word
+number_words f =
+    Four f.magic
+    ∷ Four f.version
+    ∷ Eight f.backing_file_offset
+    ∷ Four f.backing_file_size
+    ∷ Four f.cluster_bits
+    ∷ Eight f.size
+    ∷ Four f.crypt_method
+    ∷ Four f.l1_size
+    ∷ Eight f.l1_table_offset
+    ∷ Eight f.refcount_table_offset
+    ∷ Four f.refcount_table_clusters
+    ∷ Four f.nb_snapshots
+    ∷ Eight f.snapshots_offset
+    ∷ Eight f.incompatible_features
+    ∷ Eight f.compatible_features
+    ∷ Eight f.autoclear_features
+    ∷ Four f.refcount_order
+    ∷ Four f.header_length
+    ∷ []
+
+unfoldable pub number_bytes : Fields → List ℕ
+number_bytes f = words_bytes (number_words f)
 
 -- how many of the kept bytes are the header's own
 abbrev pub tail_length : Header → ℕ
-tail_length h = h.header_length - 112
+tail_length h = h.fields.header_length - 112
 
 -- the compression type, seven zeros, and the header's bytes past these, where it is longer than 104 bytes
 unfoldable pub tail_bytes : Header → List ℕ
-tail_bytes h = if nat_lt 104 h.header_length then (h.compression_type ∷ replicate 7 0) ++ take (tail_length h) h.kept.items.items else []
+tail_bytes h = if nat_lt 104 h.fields.header_length then (h.fields.compression_type ∷ replicate 7 0) ++ take (tail_length h) h.kept.items.items else []
 
 -- the kept extensions
 abbrev pub kept_part : Header → List ℕ
 kept_part h = drop (tail_length h) h.kept.items.items
 
+-- an extension's kind and the length of its content, which stands behind these
+abbrev pub head_words : ℕ → ℕ → List Word
+head_words kind length = Four kind ∷ Four length ∷ []
+
+abbrev pub source_words : ℕ → ℕ → ℕ → List Word
+source_words epoch spans_offset spans_length = Eight epoch ∷ Eight spans_offset ∷ Eight spans_length ∷ []
+
 unfoldable pub own_bytes : Own → List ℕ
 own_bytes owns.Absent = []
-own_bytes (owns.Source disk epoch spans_offset spans_length) = be32 own_kind ++ be32 40 ++ disk ++ be64 epoch ++ be64 spans_offset ++ be64 spans_length
-own_bytes (owns.Target record_) = be32 own_kind ++ be32 64 ++ record_
+own_bytes (owns.Source disk epoch spans_offset spans_length) = words_bytes (head_words own_kind 40) ++ (disk ++ words_bytes (source_words epoch spans_offset spans_length))
+own_bytes (owns.Target record_) = words_bytes (head_words own_kind 64) ++ record_
+
+abbrev pub bitmaps_words : DirPlace → List Word
+bitmaps_words place = Four place.count ∷ Four 0 ∷ Eight place.size ∷ Eight place.offset ∷ []
 
 unfoldable pub bitmaps_bytes : Option DirPlace → List ℕ
 bitmaps_bytes None = []
-bitmaps_bytes (Some place) = be32 bitmaps_kind ++ be32 24 ++ be32 place.count ++ be32 0 ++ be64 place.size ++ be64 place.offset
+bitmaps_bytes (Some place) = words_bytes (head_words bitmaps_kind 24) ++ words_bytes (bitmaps_words place)
 
 -- all of it: the numbers, the rest of the header, this project's extension, that of bitmaps, and those that are kept
 unfoldable pub header_bytes : Header → List ℕ
-header_bytes h = number_bytes h ++ tail_bytes h ++ own_bytes h.own ++ bitmaps_bytes h.bitmaps ++ kept_part h
+header_bytes h = number_bytes h.fields ++ tail_bytes h ++ own_bytes h.own ++ bitmaps_bytes h.bitmaps ++ kept_part h
 
 -- with the eight zeros that end the list it has room in a sector
 abbrev pub Fits : Header → Type 0
@@ -121,72 +155,22 @@ pub record Puts (bytes old : List ℕ) (place : ℕ) (new : List ℕ) (end : ℕ
   pub behind : (before : List ℕ) → length before + length bytes ≤ 512 → place ≡ length before → old ≡ sector_with before →
       (end ≡ length (before ++ bytes)) × (new ≡ sector_with (before ++ bytes))
 
--- a number in four bytes, and in eight
-unfoldable pub word32 : ℕ → List ℕ
-word32 n = be32 n
-
-unfoldable pub word64 : ℕ → List ℕ
-word64 n = be64 n
-
--- the numbers are those that their words hold
-pub record HasSmallNumbers (h : Header) : Type 0 where
-  pub backing_file_offset : h.backing_file_offset < 2 ^ 64
-  pub backing_file_size : h.backing_file_size < 2 ^ 32
-  pub cluster_bits : h.cluster_bits < 2 ^ 32
-  pub size : h.size < 2 ^ 64
-  pub crypt_method : h.crypt_method < 2 ^ 32
-  pub l1_size : h.l1_size < 2 ^ 32
-  pub l1_table_offset : h.l1_table_offset < 2 ^ 64
-  pub refcount_table_offset : h.refcount_table_offset < 2 ^ 64
-  pub refcount_table_clusters : h.refcount_table_clusters < 2 ^ 32
-  pub nb_snapshots : h.nb_snapshots < 2 ^ 32
-  pub snapshots_offset : h.snapshots_offset < 2 ^ 64
-  pub incompatible_features : h.incompatible_features < 2 ^ 64
-  pub compatible_features : h.compatible_features < 2 ^ 64
-  pub autoclear_features : h.autoclear_features < 2 ^ 64
-  pub refcount_order : h.refcount_order < 2 ^ 32
-  pub header_length : h.header_length < 2 ^ 32
-
 abbrev pub IsSmallOwn : Own → Type 0
 IsSmallOwn owns.Absent = Unit {0}
-IsSmallOwn (owns.Source disk epoch spans_offset spans_length) = (epoch < 2 ^ 64) × (spans_offset < 2 ^ 64) × (spans_length < 2 ^ 64)
+IsSmallOwn (owns.Source disk epoch spans_offset spans_length) = AreSmallWords (source_words epoch spans_offset spans_length)
 IsSmallOwn (owns.Target record_) = Unit {0}
 
 abbrev pub AreSmallBitmaps : Option DirPlace → Type 0
 AreSmallBitmaps None = Unit {0}
-AreSmallBitmaps (Some place) = (place.count < 2 ^ 32) × (place.size < 2 ^ 64) × (place.offset < 2 ^ 64)
+AreSmallBitmaps (Some place) = AreSmallWords (bitmaps_words place)
 
 -- Each number of a header is one that its word holds.
 pub record IsSmall (h : Header) : Type 0 where
-  pub numbers : HasSmallNumbers h
+  pub numbers : AreSmallWords (number_words h.fields)
   pub own : IsSmallOwn h.own
   pub bitmaps : AreSmallBitmaps h.bitmaps
 
 -- ---- when a header can be written and read again
-
--- the numbers of a header, as they are written
-abbrev pub fields_in : Header → Fields
-fields_in h = record {
-  magic = 0x514649fb;
-  version = 3;
-  backing_file_offset = h.backing_file_offset;
-  backing_file_size = h.backing_file_size;
-  cluster_bits = h.cluster_bits;
-  size = h.size;
-  crypt_method = h.crypt_method;
-  l1_size = h.l1_size;
-  l1_table_offset = h.l1_table_offset;
-  refcount_table_offset = h.refcount_table_offset;
-  refcount_table_clusters = h.refcount_table_clusters;
-  nb_snapshots = h.nb_snapshots;
-  snapshots_offset = h.snapshots_offset;
-  incompatible_features = h.incompatible_features;
-  compatible_features = h.compatible_features;
-  autoclear_features = h.autoclear_features;
-  refcount_order = h.refcount_order;
-  header_length = h.header_length;
-  compression_type = h.compression_type;
-}
 
 -- a kind that is none of the four that are known
 abbrev pub is_unknown : ℕ → Bool
@@ -227,18 +211,12 @@ IsOwnOf part (owns.Target record_) = ⊥
 -- The header can be written, and is read again from what is written.
 pub record IsWritable (part : Part) (h : Header) : Type 0 where
   pub small : IsSmall h
-  pub numbers : number_fault part 512 (fields_in h) ≡ None
+  pub numbers : number_fault part 512 h.fields ≡ None
   pub tail : tail_length h ≤ length h.kept.items.items
   pub blocks : List (List ℕ)
   pub unknown : AreBlocks blocks
   pub kept : kept_part h ≡ joined blocks
-  pub room : h.header_length + length (kept_part h) + 88 ≤ 512
-  pub bitmaps : AreBitmaps h.cluster_bits h.bitmaps
-  pub autoclear : (has_bit 0 h.autoclear_features && not (has_bitmaps h.bitmaps)) ≡ false
+  pub room : h.fields.header_length + length (kept_part h) + 88 ≤ 512
+  pub bitmaps : AreBitmaps h.fields.cluster_bits h.bitmaps
+  pub autoclear : (has_bit 0 h.fields.autoclear_features && not (has_bitmaps h.bitmaps)) ≡ false
   pub own : IsOwnOf part h.own
-
--- where the content of this project's extension begins in what is written, or 0
-abbrev pub own_place : ℕ → Own → ℕ
-own_place header_length owns.Absent = 0
-own_place header_length (owns.Source disk epoch spans_offset spans_length) = header_length + 8
-own_place header_length (owns.Target record_) = header_length + 8

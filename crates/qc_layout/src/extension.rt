@@ -30,7 +30,7 @@ pub(crate) struct Extension {
 
 /// What stands at a place of the list.
 #[derive(Clone, Copy)]
-enum Next {
+pub(crate) enum Next {
     /// The list ends.
     End,
     /// An extension runs past the list's end.
@@ -55,9 +55,9 @@ pub(crate) fn padded(length: u32) -> u64
 }
 
 /// What stands here in a list that ends at `end`.
-fn next_extension(bytes: &[u8], end: u64, from: u64) -> Next
+pub(crate) fn next_extension(bytes: &[u8], end: u64, from: u64) -> Next
     requires end { end ≤ 65536 }
-    requires from { from ≤ 131072 }
+    requires from { from ≤ 2 ^ 32 }
     ensures { IsNext bytes.now end from result }
 {
     if end < from + 8 {

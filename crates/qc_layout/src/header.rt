@@ -66,9 +66,10 @@ pub enum HeaderFault {
     Memory,
 }
 
-/// The numbers of a header, each under its name in the format.
+/// The numbers of a header, each under its name in the format (qcow2 specification, "Header"). Offsets, sizes and lengths
+/// are in bytes.
 #[derive(Clone, Copy, Debug)]
-pub(crate) struct Fields {
+pub struct Fields {
     pub magic: u32,
     pub version: u32,
     pub backing_file_offset: u64,
@@ -87,6 +88,7 @@ pub(crate) struct Fields {
     pub autoclear_features: u64,
     pub refcount_order: u32,
     pub header_length: u32,
+    /// 0 where it isn't there.
     pub compression_type: u8,
 }
 
@@ -114,29 +116,10 @@ pub enum Own {
     Target([u8; 64]),
 }
 
-/// A header. Offsets, sizes and lengths are in bytes.
-///
-/// qcow2 specification, "Header". Fields have their names there, but for the last four.
+/// A header.
 #[derive(Debug, Drop)]
 pub struct Header {
-    pub backing_file_offset: u64,
-    pub backing_file_size: u32,
-    pub cluster_bits: u32,
-    pub size: u64,
-    pub crypt_method: u32,
-    pub l1_size: u32,
-    pub l1_table_offset: u64,
-    pub refcount_table_offset: u64,
-    pub refcount_table_clusters: u32,
-    pub nb_snapshots: u32,
-    pub snapshots_offset: u64,
-    pub incompatible_features: u64,
-    pub compatible_features: u64,
-    pub autoclear_features: u64,
-    pub refcount_order: u32,
-    pub header_length: u32,
-    /// 0 where it isn't there.
-    pub compression_type: u8,
+    pub fields: Fields,
     /// The header's bytes past its 112th, then the extensions of unknown kinds, as they stand.
     pub kept: Bytes,
     /// What the bitmaps extension says.

@@ -19,7 +19,7 @@ mod tests;
 mod writing;
 
 pub use entry::{EntryFault, L2Entry, read_l1, read_l2, write_l2};
-pub use header::{DirPlace, Header, HeaderFault, Own, Part};
+pub use header::{DirPlace, Fields, Header, HeaderFault, Own, Part};
 pub use kind::{kind_of, start_length};
 pub use reading::read_header;
 pub use records::{Record, RecordFault, State, read_record, write_record};

@@ -71,23 +71,7 @@ fn make_header(
 {
     let own = first_of_kind(OWN_KIND, extensions);
     Ok(Header {
-        backing_file_offset: fields.backing_file_offset,
-        backing_file_size: fields.backing_file_size,
-        cluster_bits: fields.cluster_bits,
-        size: fields.size,
-        crypt_method: fields.crypt_method,
-        l1_size: fields.l1_size,
-        l1_table_offset: fields.l1_table_offset,
-        refcount_table_offset: fields.refcount_table_offset,
-        refcount_table_clusters: fields.refcount_table_clusters,
-        nb_snapshots: fields.nb_snapshots,
-        snapshots_offset: fields.snapshots_offset,
-        incompatible_features: fields.incompatible_features,
-        compatible_features: fields.compatible_features,
-        autoclear_features: fields.autoclear_features,
-        refcount_order: fields.refcount_order,
-        header_length: fields.header_length,
-        compression_type: fields.compression_type,
+        fields: *fields,
         kept: Bytes {
             items: read_kept(alloc, bytes, fields.header_length, extensions)?,
         },

@@ -58,11 +58,11 @@ fn read(alloc: Global) -> Result<Header, HeaderFault> {
 #[test]
 fn a_header_is_read(rt: HostRuntime) {
     let header = read(rt.alloc()).expect(&rt, "a header");
-    assert_eq!(rt; header.cluster_bits, 12);
-    assert_eq!(rt; header.size, 16384);
-    assert_eq!(rt; header.l1_table_offset, 0x3000);
-    assert_eq!(rt; header.refcount_table_offset, 0x1000);
-    assert_eq!(rt; header.header_length, 120);
+    assert_eq!(rt; header.fields.cluster_bits, 12);
+    assert_eq!(rt; header.fields.size, 16384);
+    assert_eq!(rt; header.fields.l1_table_offset, 0x3000);
+    assert_eq!(rt; header.fields.refcount_table_offset, 0x1000);
+    assert_eq!(rt; header.fields.header_length, 120);
     assert_eq!(rt;
         header.kept.items.as_slice(),
         b"ABCDEFGH\x11\x22\x33\x44\0\0\0\x03xyz\0\0\0\0\0".as_slice()

@@ -2,16 +2,18 @@
 
 ghost use Rattle.std.specs.Prelude.{◌≡◌, ◌≤◌, ◌<◌, ◌^◌, ℕ, List, length, min};
 ghost use Rattle.disk_model.specs.Files.{reading};
-ghost use Rattle.qc_layout.specs.Spelling.{Spells, Fits, sector_of, Puts, word32, word64, number_bytes, tail_bytes, own_bytes, bitmaps_bytes, tail_length, HasSmallNumbers, IsSmallOwn, AreSmallBitmaps};
+ghost use Rattle.qc_layout.specs.Spelling.{Spells, Fits, sector_of, Puts, word_bytes, words_bytes, number_words, head_words, IsSmallWord, AreSmallWords, tail_bytes, own_bytes, bitmaps_bytes, tail_length, IsSmallOwn, AreSmallBitmaps};
 ghost use Rattle.qc_layout.specs.declared.header.Part.{Part};
 
-use crate::header::{DirPlace, Header, Own};
+use crate::extension::{BITMAPS_KIND, OWN_KIND};
+use crate::header::{DirPlace, Fields, Header, Own};
 
-/// The kind of this project's extension.
-const OWN_KIND: u32 = 0x52424b31;
-
-/// The kind of that of bitmaps.
-const BITMAPS_KIND: u32 = 0x23852875;
+/// A number, in four bytes or in eight.
+#[derive(Clone, Copy)]
+enum Word {
+    Four(u32),
+    Eight(u64),
+}
 
 /// Puts bytes into a sector, where they have room, and answers the place behind them.
 fn put(out: &mut [u8; 512], at: usize, bytes: &[u8]) -> usize
@@ -25,52 +27,62 @@ fn put(out: &mut [u8; 512], at: usize, bytes: &[u8]) -> usize
     end
 }
 
-/// Puts a number of four bytes.
-fn put_u32(out: &mut [u8; 512], at: usize, value: u32) -> usize
-    ensures puts { Puts (word32 value) out.old at out.new result }
-    ensures small { value < 2 ^ 32 }
+/// Puts one number.
+fn put_word(out: &mut [u8; 512], at: usize, word: Word) -> usize
+    ensures puts { Puts (word_bytes word) out.old at out.new result }
+    ensures small { IsSmallWord word }
 {
-    put(out, at, &value.to_be_bytes())
+    match word {
+        Word::Four(number) => put(out, at, &number.to_be_bytes()),
+        Word::Eight(number) => put(out, at, &number.to_be_bytes()),
+    }
 }
 
-/// Puts a number of eight bytes.
-fn put_u64(out: &mut [u8; 512], at: usize, value: u64) -> usize
-    ensures puts { Puts (word64 value) out.old at out.new result }
-    ensures small { value < 2 ^ 64 }
+/// Puts numbers, one behind the other.
+fn put_words(out: &mut [u8; 512], at: usize, words: &[Word]) -> usize
+    ensures puts { Puts (words_bytes words.now) out.old at out.new result }
+    ensures small { AreSmallWords words.now }
 {
-    put(out, at, &value.to_be_bytes())
+    let mut end = at;
+    for word in words {
+        end = put_word(out, end, *word);
+    }
+    end
 }
 
-/// Puts the numbers of a header. Each place is named by what is put there.
-fn put_numbers(out: &mut [u8; 512], header: &Header) -> usize
-    ensures puts { Puts (number_bytes header.now) out.old 0 out.new result }
-    ensures small { HasSmallNumbers header.now }
+/// Puts the numbers of a header.
+fn put_numbers(out: &mut [u8; 512], fields: &Fields) -> usize
+    ensures puts { Puts (words_bytes (number_words fields.now)) out.old 0 out.new result }
+    ensures small { AreSmallWords (number_words fields.now) }
 {
-    let version = put_u32(out, 0, 0x514649fb);
-    let backing_offset = put_u32(out, version, 3);
-    let backing_size = put_u64(out, backing_offset, header.backing_file_offset);
-    let bits = put_u32(out, backing_size, header.backing_file_size);
-    let size = put_u32(out, bits, header.cluster_bits);
-    let crypt = put_u64(out, size, header.size);
-    let l1_size = put_u32(out, crypt, header.crypt_method);
-    let l1_offset = put_u32(out, l1_size, header.l1_size);
-    let refcount_offset = put_u64(out, l1_offset, header.l1_table_offset);
-    let refcount_clusters = put_u64(out, refcount_offset, header.refcount_table_offset);
-    let snapshots = put_u32(out, refcount_clusters, header.refcount_table_clusters);
-    let snapshots_offset = put_u32(out, snapshots, header.nb_snapshots);
-    let incompatible = put_u64(out, snapshots_offset, header.snapshots_offset);
-    let compatible = put_u64(out, incompatible, header.incompatible_features);
-    let autoclear = put_u64(out, compatible, header.compatible_features);
-    let refcount_order = put_u64(out, autoclear, header.autoclear_features);
-    let length = put_u32(out, refcount_order, header.refcount_order);
-    put_u32(out, length, header.header_length)
+    let words = [
+        Word::Four(fields.magic),
+        Word::Four(fields.version),
+        Word::Eight(fields.backing_file_offset),
+        Word::Four(fields.backing_file_size),
+        Word::Four(fields.cluster_bits),
+        Word::Eight(fields.size),
+        Word::Four(fields.crypt_method),
+        Word::Four(fields.l1_size),
+        Word::Eight(fields.l1_table_offset),
+        Word::Eight(fields.refcount_table_offset),
+        Word::Four(fields.refcount_table_clusters),
+        Word::Four(fields.nb_snapshots),
+        Word::Eight(fields.snapshots_offset),
+        Word::Eight(fields.incompatible_features),
+        Word::Eight(fields.compatible_features),
+        Word::Eight(fields.autoclear_features),
+        Word::Four(fields.refcount_order),
+        Word::Four(fields.header_length),
+    ];
+    put_words(out, 0, &words)
 }
 
 /// How many of the kept bytes are the header's own.
 fn tail_end(header: &Header) -> usize
     ensures { result ≡ min (tail_length header.now) (length header.now.kept.items.items) }
 {
-    let past = header.header_length.saturating_sub(112) as usize;
+    let past = header.fields.header_length.saturating_sub(112) as usize;
     past.min(header.kept.items.len())
 }
 
@@ -78,14 +90,26 @@ fn tail_end(header: &Header) -> usize
 fn put_tail(out: &mut [u8; 512], at: usize, header: &Header) -> usize
     ensures { Puts (tail_bytes header.now) out.old at out.new result }
 {
-    if header.header_length <= 104 {
+    if header.fields.header_length <= 104 {
         return at;
     }
-    let tail = put(out, at, &[header.compression_type, 0, 0, 0, 0, 0, 0, 0]);
+    let tail = put(
+        out,
+        at,
+        &[header.fields.compression_type, 0, 0, 0, 0, 0, 0, 0],
+    );
     put(out, tail, &header.kept.items[..tail_end(header)])
 }
 
+/// Puts the kind of an extension and the length of its content.
+fn put_head(out: &mut [u8; 512], at: usize, kind: u32, length: u32) -> usize
+    ensures { Puts (words_bytes (head_words kind length)) out.old at out.new result }
+{
+    put_words(out, at, &[Word::Four(kind), Word::Four(length)])
+}
+
 /// Puts this project's extension.
+#[tactic(auto, using(crate::proofs::Puts::puts_on), unfolding(crate::specs::Spelling::own_bytes))]
 fn put_own(out: &mut [u8; 512], at: usize, own: &Own) -> usize
     ensures puts { Puts (own_bytes own.now) out.old at out.new result }
     ensures small { IsSmallOwn own.now }
@@ -98,22 +122,24 @@ fn put_own(out: &mut [u8; 512], at: usize, own: &Own) -> usize
             spans_offset,
             spans_length,
         } => {
-            let length = put_u32(out, at, OWN_KIND);
-            let content = put_u32(out, length, 40);
+            let content = put_head(out, at, OWN_KIND, 40);
             let numbers = put(out, content, disk);
-            let offset = put_u64(out, numbers, *epoch);
-            let last = put_u64(out, offset, *spans_offset);
-            put_u64(out, last, *spans_length)
+            let words = [
+                Word::Eight(*epoch),
+                Word::Eight(*spans_offset),
+                Word::Eight(*spans_length),
+            ];
+            put_words(out, numbers, &words)
         }
         Own::Target(record) => {
-            let length = put_u32(out, at, OWN_KIND);
-            let content = put_u32(out, length, 64);
+            let content = put_head(out, at, OWN_KIND, 64);
             put(out, content, record)
         }
     }
 }
 
 /// Puts the extension of bitmaps.
+#[tactic(auto, using(crate::proofs::Puts::puts_on), unfolding(crate::specs::Spelling::bitmaps_bytes))]
 fn put_bitmaps(out: &mut [u8; 512], at: usize, bitmaps: &Option<DirPlace>) -> usize
     ensures puts { Puts (bitmaps_bytes bitmaps.now) out.old at out.new result }
     ensures small { AreSmallBitmaps bitmaps.now }
@@ -121,12 +147,14 @@ fn put_bitmaps(out: &mut [u8; 512], at: usize, bitmaps: &Option<DirPlace>) -> us
     match bitmaps {
         None => at,
         Some(place) => {
-            let length = put_u32(out, at, BITMAPS_KIND);
-            let content = put_u32(out, length, 24);
-            let zeros = put_u32(out, content, place.count);
-            let size = put_u32(out, zeros, 0);
-            let offset = put_u64(out, size, place.size);
-            put_u64(out, offset, place.offset)
+            let content = put_head(out, at, BITMAPS_KIND, 24);
+            let words = [
+                Word::Four(place.count),
+                Word::Four(0),
+                Word::Eight(place.size),
+                Word::Eight(place.offset),
+            ];
+            put_words(out, content, &words)
         }
     }
 }
@@ -139,7 +167,7 @@ pub fn write_header(header: &Header, out: &mut [u8; 512])
         512 ≤ length written → reading written 0 512 ≡ out.new → Spells part written header.now }
 {
     *out = [0; 512];
-    let numbers = put_numbers(out, header);
+    let numbers = put_numbers(out, &header.fields);
     let tail = put_tail(out, numbers, header);
     let own = put_own(out, tail, &header.own);
     let bitmaps = put_bitmaps(out, own, &header.bitmaps);

@@ -1,24 +1,31 @@
-use Rattle.std.proofs.Common.{List, subst, ◌∙◌}
+use Rattle.std.proofs.Common.{◌+◌, ap, ◌∙◌, arith}
 use Rattle.qc_layout.specs.declared.extension.Extension.{Extension}
-use Rattle.qc_layout.specs.Reading.{IsKind}
-use Rattle.qc_layout.proofs.Made.{listed_near}
-use Rattle.qc_layout.specs.Disks.{bits_of}
-use Rattle.qc_layout.proofs.Parting.{long_source, broken_source, listed_in, kind_read}
+use Rattle.qc_layout.specs.Extensions.{IsExtension}
+use Rattle.qc_layout.proofs.Listing.{end_or_extension}
+use Rattle.qc_layout.proofs.Parting.{decides_first, decides_behind, none_source, own_target, own_source}
 use Rattle.qc_layout.proofs.kind.kind_of.Goals as goal
 
-pub returns-then-from-gt65536 : goal.returns-then-from-gt65536
-returns-then-from-gt65536 c = long_source c.args.bytes.now c.list_end-end.result c.from-from.result c.list_end-end.ensures.end (c.from-from.ensures ∙ c.number_32.ensures) c.if-from-gt65536.true
+pub loop-e-init : goal.loop-e-init
+loop-e-init c = record { near = omega arith; decides = decides_first c.args.bytes.now c.list_end-end.result c.from-at.result c.list_end-end.ensures.end (c.from-at.ensures ∙ c.number_32.ensures) }
 
-pub kind_by-requires : goal.kind_by-requires
-kind_by-requires c =
-    listed_near c.args.bytes.now c.list_end-end.result c.from-from.result (bits_of c.args.bytes.now) c.in-Some.extensions.items c.as_slice.result.now
-    c.list_end-end.ensures.end (rw c.in-Some.is at c.in_ok-list_extensions.ensures) c.as_slice.ensures.value
+pub returns-in-End : goal.returns-in-End
+returns-in-End c =
+    none_source c.args.bytes.now c.list_end-end.result c.loop-e.at c.loop-e.invariant.decides
+    (λ (e : Extension) is. end_or_extension c.args.bytes.now c.list_end-end.result c.loop-e.at e is c.in-End.ensures)
 
-pub returns-in-None : goal.returns-in-None
-returns-in-None c = broken_source c.args.bytes.now c.list_end-end.result c.from-from.result c.list_end-end.ensures.end (c.from-from.ensures ∙ c.number_32.ensures) (rw c.in-None.is at c.in_ok-list_extensions.ensures)
+pub returns-in-Broken : goal.returns-in-Broken
+returns-in-Broken c = none_source c.args.bytes.now c.list_end-end.result c.loop-e.at c.loop-e.invariant.decides c.in-Broken.ensures.1
 
-pub returns-in-Some : goal.returns-in-Some
-returns-in-Some c =
-    kind_read c.args.bytes.now c.in-Some.extensions.items c.kind_by.result
-    (listed_in c.args.bytes.now c.list_end-end.result c.from-from.result c.in-Some.extensions.items c.list_end-end.ensures.end (c.from-from.ensures ∙ c.number_32.ensures) (rw c.in-Some.is at c.in_ok-list_extensions.ensures))
-    (subst (λ (es : List Extension). IsKind es c.kind_by.result) c.as_slice.ensures.value c.kind_by.ensures)
+pub returns-then-e-eq64 : goal.returns-then-e-eq64
+returns-then-e-eq64 c = own_target c.args.bytes.now c.list_end-end.result c.loop-e.at c.in-Whole.e c.loop-e.invariant.decides c.in-Whole.ensures c.if-e-eq-OWN_KIND.true c.if-e-eq64.true
+
+pub returns-else-e-eq64 : goal.returns-else-e-eq64
+returns-else-e-eq64 c = own_source c.args.bytes.now c.list_end-end.result c.loop-e.at c.in-Whole.e c.loop-e.invariant.decides c.in-Whole.ensures c.if-e-eq-OWN_KIND.true c.if-e-eq64.false
+
+pub loop-e-preserved : goal.loop-e-preserved
+loop-e-preserved c =
+    let is : IsExtension c.args.bytes.now c.list_end-end.result c.loop-e.at c.in-Whole.e = c.in-Whole.ensures in
+    record {
+      near = omega (arith, is.whole);
+      decides = decides_behind c.args.bytes.now c.list_end-end.result c.loop-e.at (c.in-Whole.e.place + c.padded.result) c.in-Whole.e c.loop-e.invariant.decides is c.if-e-eq-OWN_KIND.false (ap (λ n. c.in-Whole.e.place + n) c.padded.ensures);
+    }

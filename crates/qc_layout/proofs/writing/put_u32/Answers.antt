@@ -1,7 +1,0 @@
-use Rattle.qc_layout.specs.Spelling.{word32}
-use Rattle.qc_layout.proofs.Puts.{puts_as}
-use Rattle.qc_layout.proofs.writing.put_u32.Goals as goal
-
-pub returns-clause-puts : goal.returns-clause-puts
-unfolding word32
-returns-clause-puts c = puts_as c.to_be_bytes.ensures c.put.ensures
