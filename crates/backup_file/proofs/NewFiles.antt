@@ -4,7 +4,7 @@ use Rattle.std.specs.Prelude.{not, ◌&&◌, ◌||◌, nat_lt, ◌==◌}
 use Rattle.std.proofs.lemmas.Bool.{le-ltb, lt-ltb, ne_eqb}
 use Rattle.std.proofs.lemmas.Nat.{one_shl, mul-le}
 use Rattle.std.proofs.Math.Nat.{mul-mod_right}
-use Rattle.disk_model.specs.Files.{reading, u32_at, u64_at}
+use Rattle.disk_model.specs.Files.{reading, u32_at, u64_at, number_at}
 use Rattle.span_algebra.specs.declared.spans.Base.TheVariants.{Loose}
 use Rattle.qc_layout.specs.declared.header.Header.{Header}
 use Rattle.qc_layout.specs.declared.header.Own.{Own}
@@ -238,7 +238,7 @@ pub record IsBlankBytes (bits : ℕ) (bytes : List ℕ) : Type 0 where
   pub says : record_of bytes ≡ blank bits
 
 blank_bytes : (bits : ℕ) → 9 ≤ bits → bits ≤ 21 → IsBlankBytes bits (record_bytes (blank bits))
-unfolding record_fault record_of record_bytes u32_at u64_at reading
+unfolding record_fault record_of record_bytes number_at reading
 blank_bytes bits low high = by_bits (λ b. IsBlankBytes b (record_bytes (blank b)))
     (record { long = refl; well = refl; says = refl })
     (record { long = refl; well = refl; says = refl })

@@ -4,7 +4,7 @@ use Rattle.std.specs.Int.{w64, from_be_bytes, to_be_bytes}
 use Rattle.std.proofs.lemmas.Nat.{from_be_bytes-to_be_bytes_8}
 use Rattle.std.proofs.lemmas.Bool.{cases_lt, cases_eq}
 use Rattle.std.proofs.lemmas.List.{length-replicate, get_or-replicate}
-use Rattle.disk_model.specs.Files.{byte, overlay, u64_at}
+use Rattle.disk_model.specs.Files.{byte, overlay, u64_at, number_at}
 use Rattle.disk_model.proofs.Bytes.{length-overlay, length-overlay_inside, byte-overlay_in, is_reading}
 use Rattle.disk_model.proofs.Words.{number-overlay_same}
 use Rattle.qc_layout.specs.Entries.{offset_in}
@@ -22,7 +22,7 @@ word_there f o v small = number-overlay_same w64 f o (to_be_bytes w64 v) refl �
 
 -- eight zeros are 0
 pub u64_zeros : (f : List ℕ) (o : ℕ) → ((i : ℕ) → i < 8 → byte f (o + i) ≡ 0) → u64_at f o ≡ 0
-unfolding u64_at
+unfolding number_at
 u64_zeros f o zeros = ap (from_be_bytes w64) (sym (is_reading f (replicate 8 0) o 8 (length-replicate {A = ℕ} 8 0) (λ i lt. get_or-replicate 8 i 0 0 lt ∙ sym (zeros i lt))))
 
 pub word_offset : (h : ℕ) → h % 512 ≡ 0 → h < 2 ^ 56 → offset_in (h + 2 ^ 63) ≡ h

@@ -1,8 +1,9 @@
 -- Extensions that stand one behind the other, as blocks of bytes.
+use Rattle.std.specs.Int.{w32}
 use Rattle.std.proofs.Common.{◌≡◌, ℕ, ◌+◌, ◌-◌, ◌≤◌, List, [], ◌∷◌, ◌++◌, length, Bool, true, false, Some, None, refl, sym, ap, ◌∙◌, subst, arith, length-append}
 use Rattle.std.specs.Prelude.{not, ◌||◌, ◌==◌, if◌then◌else◌, suc}
 use Rattle.disk_model.specs.Files.{reading, u32_at}
-use Rattle.disk_model.proofs.Laws.{length-reading, u32-reading}
+use Rattle.disk_model.proofs.Laws.{length-reading, number-reading}
 use Rattle.qc_layout.specs.declared.extension.Extension.{Extension}
 use Rattle.qc_layout.specs.Extensions.{IsEnd, IsExtension, AreExtensions, behind, padded, is_kept, bytes_of, kept_bytes, kept_length, count_of, first_of_kind, backing_kind, names_kind, bitmaps_kind, own_kind}
 use Rattle.qc_layout.specs.Spelling.{IsBlock, AreBlocks, joined, is_unknown}
@@ -122,8 +123,8 @@ is_block file end from e is kept =
     let n = 8 + padded e.length in
     let start : e.place - 8 + 0 ≡ from = omega arith in
     let middle : e.place - 8 + 4 ≡ from + 4 = omega arith in
-    let kind : u32_at (bytes_of file e) 0 ≡ e.kind = u32-reading file (e.place - 8) n 0 (omega arith) ∙ ap (u32_at file) start ∙ sym is.kind in
-    let size : u32_at (bytes_of file e) 4 ≡ e.length = u32-reading file (e.place - 8) n 4 (omega arith) ∙ ap (u32_at file) middle ∙ sym is.length in
+    let kind : u32_at (bytes_of file e) 0 ≡ e.kind = number-reading w32 file (e.place - 8) n 0 (omega arith) ∙ ap (u32_at file) start ∙ sym is.kind in
+    let size : u32_at (bytes_of file e) 4 ≡ e.length = number-reading w32 file (e.place - 8) n 4 (omega arith) ∙ ap (u32_at file) middle ∙ sym is.length in
     record {
       long = length-reading file (e.place - 8) n ∙ ap (λ (k : ℕ). 8 + padded k) (sym size);
       some = λ z. is.some (sym kind ∙ z);

@@ -1,10 +1,11 @@
 -- The one form of image that `replay` takes, by the format: a file of that form stands in it for the disk that it stands for.
+use Rattle.std.specs.Int.{w64, w32}
 use Rattle.std.proofs.Common.{◌≡◌, ◌≢◌, inl, inr, ⊎_elim, ℕ, ◌+◌, ◌*◌, ◌/◌, ◌%◌, ◌^◌, ◌<◌, ◌≤◌, max, List, length, Bool, Option, Some, None, Result, Ok, refl, sym, ap, ◌∙◌, subst, arith}
 use Rattle.std.specs.Prelude.{◌==◌, if◌then◌else◌}
 use Rattle.std.proofs.lemmas.Bool.{ne_eqb, cases_eq}
 use Rattle.std.proofs.lemmas.List.FromFn.{length-map-range_with_len, get_or-map-range_with_len}
 use Rattle.disk_model.specs.Files.{byte, u64_at}
-use Rattle.disk_model.proofs.Laws.{same_file, reading_same, u32-reading, u64-reading}
+use Rattle.disk_model.proofs.Laws.{same_file, reading_same, number-reading}
 use Rattle.qc_layout.specs.declared.entry.EntryFault.{EntryFault}
 use Rattle.qc_layout.specs.declared.entry.L2Entry.{L2Entry}
 use Rattle.qc_layout.specs.declared.entry.L2Entry.TheVariants.{Hole, Stored}
@@ -52,15 +53,15 @@ clusters_below file n form below = let limit = form.header.size_limit in omega a
 
 pub first_bits : (file : List ℕ) → IsFirstForm file → bits_of file ≡ 12
 unfolding fields_of
-first_bits file form = sym (u32-reading file 0 104 20 (omega arith)) ∙ form.header.bits
+first_bits file form = sym (number-reading w32 file 0 104 20 (omega arith)) ∙ form.header.bits
 
 first_size : (file : List ℕ) → (fields_of file).size ≡ disk_size file
 unfolding fields_of
-first_size file = sym (u64-reading file 0 104 24 (omega arith))
+first_size file = sym (number-reading w64 file 0 104 24 (omega arith))
 
 first_l1 : (file : List ℕ) → (fields_of file).l1_table_offset ≡ l1_offset file
 unfolding fields_of
-first_l1 file = sym (u64-reading file 0 104 40 (omega arith))
+first_l1 file = sym (number-reading w64 file 0 104 40 (omega arith))
 
 -- ---- plain entries
 

@@ -5,7 +5,7 @@ use Rattle.std.specs.Int.{to_be_bytes, w32, w64}
 use Rattle.std.proofs.Math.Seq.{take-append_seam, drop-append-add, drop-length}
 use Rattle.std.proofs.lemmas.List.{append-nil}
 use Rattle.disk_model.specs.Files.{reading, u32_at, u64_at}
-use Rattle.disk_model.proofs.Laws.{reading-append, u32-append, u64-append, length-reading}
+use Rattle.disk_model.proofs.Laws.{reading-append, number-append, length-reading}
 use Rattle.span_algebra.specs.declared.points.Point.{Point}
 use Rattle.span_algebra.specs.declared.spans.Base.{Base}
 use Rattle.span_algebra.specs.declared.spans.Base.TheVariants.{Whole, Since, Loose}
@@ -77,10 +77,10 @@ record Starts (whole : List ℕ) (s k u : ℕ) : Type 0 where
 starts : (state kind unit : ℕ) (rest : List ℕ) → state < 2 ^ 32 → kind < 2 ^ 32 → unit < 2 ^ 32
     → Starts (to_be_bytes w32 1 ++ to_be_bytes w32 state ++ to_be_bytes w32 kind ++ to_be_bytes w32 unit ++ rest) state kind unit
 starts state kind unit rest low_state low_kind low_unit = record {
-  version = ap (λ (l : List ℕ). u32_at l 0) (regroup_1 (to_be_bytes w32 1) (to_be_bytes w32 state) (to_be_bytes w32 kind) (to_be_bytes w32 unit) rest) ∙ u32-append [] (to_be_bytes w32 state ++ to_be_bytes w32 kind ++ to_be_bytes w32 unit ++ rest) 0 1 refl (omega arith);
-  state = ap (λ (l : List ℕ). u32_at l 4) (regroup_2 (to_be_bytes w32 1) (to_be_bytes w32 state) (to_be_bytes w32 kind) (to_be_bytes w32 unit) rest) ∙ u32-append (to_be_bytes w32 1) (to_be_bytes w32 kind ++ to_be_bytes w32 unit ++ rest) 4 state refl low_state;
-  kind = ap (λ (l : List ℕ). u32_at l 8) (regroup_3 (to_be_bytes w32 1) (to_be_bytes w32 state) (to_be_bytes w32 kind) (to_be_bytes w32 unit) rest) ∙ u32-append (to_be_bytes w32 1 ++ to_be_bytes w32 state) (to_be_bytes w32 unit ++ rest) 8 kind refl low_kind;
-  unit = u32-append (to_be_bytes w32 1 ++ to_be_bytes w32 state ++ to_be_bytes w32 kind) rest 12 unit refl low_unit;
+  version = ap (λ (l : List ℕ). u32_at l 0) (regroup_1 (to_be_bytes w32 1) (to_be_bytes w32 state) (to_be_bytes w32 kind) (to_be_bytes w32 unit) rest) ∙ number-append w32 [] (to_be_bytes w32 state ++ to_be_bytes w32 kind ++ to_be_bytes w32 unit ++ rest) 0 1 refl (omega arith);
+  state = ap (λ (l : List ℕ). u32_at l 4) (regroup_2 (to_be_bytes w32 1) (to_be_bytes w32 state) (to_be_bytes w32 kind) (to_be_bytes w32 unit) rest) ∙ number-append w32 (to_be_bytes w32 1) (to_be_bytes w32 kind ++ to_be_bytes w32 unit ++ rest) 4 state refl low_state;
+  kind = ap (λ (l : List ℕ). u32_at l 8) (regroup_3 (to_be_bytes w32 1) (to_be_bytes w32 state) (to_be_bytes w32 kind) (to_be_bytes w32 unit) rest) ∙ number-append w32 (to_be_bytes w32 1 ++ to_be_bytes w32 state) (to_be_bytes w32 unit ++ rest) 8 kind refl low_kind;
+  unit = number-append w32 (to_be_bytes w32 1 ++ to_be_bytes w32 state ++ to_be_bytes w32 kind) rest 12 unit refl low_unit;
 }
 
 -- ---- a sealed record's claim
@@ -117,10 +117,10 @@ point_at : (before after whole : List ℕ) (at : ℕ) (p : Point) → length bef
 point_at before after whole at p long low_epoch low_serial first second = same_point (u64_at whole at) (u64_at whole (at + 8)) p.epoch p.serial e f
   where
     e : u64_at whole at ≡ p.epoch
-    e = ap (λ (l : List ℕ). u64_at l at) first ∙ u64-append before (to_be_bytes w64 p.serial ++ after) at p.epoch long low_epoch
+    e = ap (λ (l : List ℕ). u64_at l at) first ∙ number-append w64 before (to_be_bytes w64 p.serial ++ after) at p.epoch long low_epoch
 
     f : u64_at whole (at + 8) ≡ p.serial
-    f = ap (λ (l : List ℕ). u64_at l (at + 8)) second ∙ u64-append (before ++ to_be_bytes w64 p.epoch) after (at + 8) p.serial (omega (arith, length-append before (to_be_bytes w64 p.epoch))) low_serial
+    f = ap (λ (l : List ℕ). u64_at l (at + 8)) second ∙ number-append w64 (before ++ to_be_bytes w64 p.epoch) after (at + 8) p.serial (omega (arith, length-append before (to_be_bytes w64 p.epoch))) low_serial
 
 -- ---- what a record says again
 

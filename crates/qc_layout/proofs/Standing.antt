@@ -1,9 +1,10 @@
 -- Bytes that stand in a file, and the numbers in them.
+use Rattle.std.specs.Int.{w64, w32}
 use Rattle.std.proofs.Common.{◌≡◌, ℕ, ◌+◌, ◌^◌, ◌<◌, ◌≤◌, List, [], ◌++◌, length, replicate, refl, sym, ap, ◌∙◌, subst, arith, length-append}
 use Rattle.std.proofs.lemmas.List.{append-nil, get_or-replicate}
 use Rattle.std.proofs.lemmas.Nat.{from_be_bytes-to_be_bytes_4, from_be_bytes-to_be_bytes_8}
 use Rattle.disk_model.specs.Files.{reading, u32_at, u64_at}
-use Rattle.disk_model.proofs.Laws.{reading-reading, reading-append, byte_past, u32_read, u64_read, u32_same, u32-past, u32-reading}
+use Rattle.disk_model.proofs.Laws.{reading-reading, reading-append, byte_past, number_read, number_same, number-past, number-reading}
 use Rattle.qc_layout.specs.Spelling.{word32, word64}
 
 -- these bytes stand here
@@ -52,12 +53,12 @@ length-word64 n = refl
 -- a number of four bytes
 pub stands_u32 : {file : List ℕ} {p : ℕ} (n : ℕ) → Stands file p (word32 n) → n < 2 ^ 32 → u32_at file p ≡ n
 unfolding word32
-stands_u32 {file} {p} n s small = u32_read file (word32 n) p s.read ∙ from_be_bytes-to_be_bytes_4 n small
+stands_u32 {file} {p} n s small = number_read w32 file (word32 n) p s.read ∙ from_be_bytes-to_be_bytes_4 n small
 
 -- of eight
 pub stands_u64 : {file : List ℕ} {p : ℕ} (n : ℕ) → Stands file p (word64 n) → n < 2 ^ 64 → u64_at file p ≡ n
 unfolding word64
-stands_u64 {file} {p} n s small = u64_read file (word64 n) p s.read ∙ from_be_bytes-to_be_bytes_8 n small
+stands_u64 {file} {p} n s small = number_read w64 file (word64 n) p s.read ∙ from_be_bytes-to_be_bytes_8 n small
 
 -- one in front of others
 pub first_u32 : {file : List ℕ} {p : ℕ} (n : ℕ) (rest : List ℕ) → Stands file p (word32 n ++ rest) → n < 2 ^ 32 → u32_at file p ≡ n
@@ -75,10 +76,10 @@ past_u64 {file} {p} n rest s = stands_at (ap (λ (k : ℕ). p + k) (length-word6
 
 -- a number in what stands here
 pub inner_u32 : {file : List ℕ} {p : ℕ} {bytes : List ℕ} → Stands file p bytes → (i : ℕ) → i + 4 ≤ length bytes → u32_at bytes i ≡ u32_at file (p + i)
-inner_u32 {file} {p} {bytes} s i inside = ap (λ (l : List ℕ). u32_at l i) (sym s.read) ∙ u32-reading file p (length bytes) i inside
+inner_u32 {file} {p} {bytes} s i inside = ap (λ (l : List ℕ). u32_at l i) (sym s.read) ∙ number-reading w32 file p (length bytes) i inside
 
 -- four zeros are 0
 pub zeros_u32 : (n : ℕ) → 4 ≤ n → u32_at (replicate n 0) 0 ≡ 0
 zeros_u32 n some =
-    u32_same (replicate n 0) [] 0 (λ i low high. get_or-replicate n i 0 0 (omega arith) ∙ sym (byte_past [] i (omega arith)))
-    ∙ u32-past [] 0 (omega arith)
+    number_same w32 (replicate n 0) [] 0 (λ i low high. get_or-replicate n i 0 0 (omega arith) ∙ sym (byte_past [] i (omega arith)))
+    ∙ number-past w32 [] 0 (omega arith)

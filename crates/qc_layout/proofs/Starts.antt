@@ -1,11 +1,12 @@
 -- What is read of a file depends on its first sector alone, and on its first cluster up to 65536 bytes.
+use Rattle.std.specs.Int.{w64, w32}
 use Rattle.std.proofs.Common.{◌≡◌, ◌⊎◌, inl, inr, ℕ, ◌+◌, ◌-◌, ◌*◌, ◌%◌, ◌^◌, ◌<◌, ◌≤◌, max, Bool, true, false, List, [], ◌∷◌, ◌++◌, length, take, Option, Some, None, refl, sym, ap, ◌∙◌, subst, arith, get_or-take, length-take}
 use Rattle.std.specs.Prelude.{not, nat_lt, ◌==◌, ◌||◌, if◌then◌else◌}
 use Rattle.std.proofs.lemmas.Bool.{eqb-true}
 use Rattle.std.proofs.lemmas.Bool.Decides.{nat_tests}
 use Rattle.std.proofs.lemmas.Nat.{pow-add}
 use Rattle.disk_model.specs.Files.{byte, reading, u32_at, u64_at}
-use Rattle.disk_model.proofs.Laws.{byte-reading, reading-reading, reading_same, u32_as, u64_as}
+use Rattle.disk_model.proofs.Laws.{byte-reading, reading-reading, reading_same, number_as}
 use Rattle.qc_layout.specs.declared.extension.Extension.{Extension}
 use Rattle.qc_layout.specs.declared.header.Fields.{Fields}
 use Rattle.qc_layout.specs.declared.header.Header.{Header}
@@ -39,10 +40,10 @@ alike_reading {n} a b at count alike inside =
     ∙ ap (λ (p : ℕ). reading b p count) z
 
 pub alike_32 : {n : ℕ} (a b : List ℕ) (at : ℕ) → BeginAlike n a b → at + 4 ≤ n → u32_at a at ≡ u32_at b at
-alike_32 a b at alike inside = u32_as a b at at (alike_reading a b at 4 alike inside)
+alike_32 a b at alike inside = number_as w32 a b at at (alike_reading a b at 4 alike inside)
 
 pub alike_64 : {n : ℕ} (a b : List ℕ) (at : ℕ) → BeginAlike n a b → at + 8 ≤ n → u64_at a at ≡ u64_at b at
-alike_64 a b at alike inside = u64_as a b at at (alike_reading a b at 8 alike inside)
+alike_64 a b at alike inside = number_as w64 a b at at (alike_reading a b at 8 alike inside)
 
 pub alike_byte : {n : ℕ} (a b : List ℕ) (at : ℕ) → BeginAlike n a b → at < n → byte a at ≡ byte b at
 alike_byte {n} a b at alike inside =
@@ -304,7 +305,7 @@ taken_reading n file at count inside = reading_same (take n file) file at count 
 -- they say how many the header takes, if they have its cluster bits
 pub start_same : (n : ℕ) (file : List ℕ) → 24 ≤ n → start_length (take n file) ≡ start_length file
 unfolding fields_of
-start_same n file some = ap (λ (bits : ℕ). max 512 (list_end bits)) (u32_as (take n file) file 20 20 (taken_reading n file 20 4 (omega arith)))
+start_same n file some = ap (λ (bits : ℕ). max 512 (list_end bits)) (number_as w32 (take n file) file 20 20 (taken_reading n file 20 4 (omega arith)))
 
 taken_short : (n : ℕ) (file : List ℕ) → 512 ≤ n → length file < 104 → length (take n file) < 104
 taken_short n file sector short = omega (arith, length-take n file)

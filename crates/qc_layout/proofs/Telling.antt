@@ -2,7 +2,7 @@
 use Rattle.std.proofs.Common.{◌≡◌, inr, ℕ, ◌+◌, ◌≤◌, List, [], ◌∷◌, ◌++◌, length, drop, replicate, Bool, false, None, refl, sym, ap, ◌∙◌, subst, arith, length-append}
 use Rattle.std.specs.Prelude.{codes, not, ◌&&◌, nat_lt}
 use Rattle.std.proofs.lemmas.Bool.{le-ltb}
-use Rattle.disk_model.specs.Files.{reading, u32_at}
+use Rattle.disk_model.specs.Files.{reading, u32_at, number_at}
 use Rattle.disk_model.proofs.Laws.{reading-reading}
 use Rattle.qc_layout.specs.declared.extension.Extension.{Extension}
 use Rattle.qc_layout.specs.declared.header.Own.{Own}
@@ -186,11 +186,11 @@ abbrev pub format_words : List ℕ
 format_words = be32 backing_kind ++ be32 5 ++ codes "qcow2" ++ replicate 11 0
 
 format_kind : u32_at format_words 0 ≡ backing_kind
-unfolding u32_at reading
+unfolding number_at reading
 format_kind = refl
 
 format_length : u32_at format_words 4 ≡ 5
-unfolding u32_at reading
+unfolding number_at reading
 format_length = refl
 
 format_content : reading format_words 8 5 ≡ codes "qcow2"
@@ -198,7 +198,7 @@ unfolding reading
 format_content = refl
 
 format_end : u32_at format_words 16 ≡ 0
-unfolding u32_at reading
+unfolding number_at reading
 format_end = refl
 
 own_no_backing : (place : ℕ) (own : Own) (es : List Extension) → first_of_kind backing_kind (in_front (own_extension place own) es) ≡ first_of_kind backing_kind es

@@ -25,7 +25,7 @@ pub(crate) fn array_at<const N: usize>(bytes: &[u8], at: u64) -> [u8; N]
 }
 
 /// The number of four bytes at an offset.
-#[tactic(auto, unfolding(disk_model::specs::Files::u32_at))]
+#[tactic(auto, unfolding(disk_model::specs::Files::number_at))]
 pub(crate) fn number_32(bytes: &[u8], at: u64) -> u32
     requires { at < 2 ^ 32 }
     ensures { result ≡ u32_at bytes.now at }
@@ -34,7 +34,7 @@ pub(crate) fn number_32(bytes: &[u8], at: u64) -> u32
 }
 
 /// The number of eight bytes at an offset.
-#[tactic(auto, unfolding(disk_model::specs::Files::u64_at))]
+#[tactic(auto, unfolding(disk_model::specs::Files::number_at))]
 pub(crate) fn number_64(bytes: &[u8], at: u64) -> u64
     requires { at < 2 ^ 32 }
     ensures { result ≡ u64_at bytes.now at }
