@@ -1,10 +1,10 @@
 -- What a file is that was laid out with a new header.
-use Rattle.std.proofs.Common.{◌≡◌, ◌≢◌, ℕ, ◌+◌, ◌*◌, ◌/◌, ◌%◌, ◌^◌, ◌<◌, ◌≤◌, List, [], ◌++◌, length, replicate, Bool, true, false, Option, Some, None, refl, sym, ap, ◌∙◌, subst, arith, length-append}
+use Rattle.std.proofs.Common.{◌≡◌, ℕ, ◌+◌, ◌*◌, ◌%◌, ◌^◌, ◌<◌, ◌≤◌, List, [], ◌++◌, length, replicate, Bool, true, false, Option, Some, None, refl, sym, ap, ◌∙◌, subst, arith, length-append}
 use Rattle.std.specs.Prelude.{not, ◌&&◌, ◌||◌, nat_lt, ◌==◌}
 use Rattle.std.proofs.lemmas.Bool.{le-ltb, lt-ltb, ne_eqb}
 use Rattle.std.proofs.lemmas.Nat.{one_shl, mul-le}
 use Rattle.std.proofs.Math.Nat.{mul-mod_right}
-use Rattle.disk_model.specs.Files.{reading, u32_at, u64_at, number_at}
+use Rattle.disk_model.specs.Files.{reading, number_at}
 use Rattle.span_algebra.specs.declared.spans.Base.TheVariants.{Loose}
 use Rattle.qc_layout.specs.declared.header.Header.{Header}
 use Rattle.qc_layout.specs.declared.header.Own.{Own}
@@ -12,7 +12,7 @@ use Rattle.qc_layout.specs.declared.header.Own.TheVariants as owns
 use Rattle.qc_layout.specs.declared.header.Part.{Part}
 use Rattle.qc_layout.specs.declared.header.Part.TheVariants as parts
 use Rattle.qc_layout.specs.declared.records.State.TheVariants.{Blank}
-use Rattle.qc_layout.specs.Header.{is_bits, is_size, is_place, is_disk, has_bit, l1_needed, number_fault, first_of, or_else, form_rules, feature_rules, table_rules}
+use Rattle.qc_layout.specs.Header.{is_place, is_disk, l1_needed, number_fault, first_of, or_else, form_rules, feature_rules, table_rules}
 use Rattle.qc_layout.specs.Disks.{place_of}
 use Rattle.qc_layout.specs.Records.{record_fault, record_of, record_bytes}
 use Rattle.qc_layout.specs.Spelling.{Fits, sector_of, own_bytes, number_words, AreSmallWords, IsSmallOwn, AreSmallBitmaps, IsOwnOf}

@@ -4,7 +4,8 @@ ghost use Rattle.std.specs.Prelude.{◌≡◌, ◌≢◌, ◌≤◌, ℕ, List, 
 ghost use Rattle.disk_model.specs.World.{World};
 ghost use Rattle.backup_file.specs.Layout.{is_form};
 ghost use Rattle.backup_file.specs.Made.{IsNewSource, IsNewTarget};
-ghost use Rattle.backup_file.specs.Creating.{HasCreated, Refuses};
+ghost use Rattle.file_device.specs.Names.{HasCreated};
+ghost use Rattle.backup_file.specs.Creating.{Refuses};
 
 use crate::contents::{source_bytes, target_bytes};
 use crate::making::put_file;

@@ -2,10 +2,12 @@
 
 ghost use Rattle.std.specs.Prelude.{◌≡◌, ◌≤◌, ◌^◌, length, IfOk, IfErr};
 ghost use Rattle.disk_model.specs.World.{World};
-ghost use Rattle.backup_file.specs.Creating.{HasCreated, Refuses};
+ghost use Rattle.file_device.specs.Names.{HasCreated};
+ghost use Rattle.backup_file.specs.Creating.{Refuses};
 
 use crate::create::CreateRefusal;
 use disk_model::{Depot, FileNo, Made};
+use file_device::{make, sync, write};
 
 /// Makes a file of these bytes. A name that is there is found before anything is touched.
 pub(crate) fn put_file<D: Depot>(
@@ -22,16 +24,16 @@ pub(crate) fn put_file<D: Depot>(
         Ok(None) => {}
         Err(_) => return Err(CreateRefusal::Failed),
     }
-    let file = match depot.make(name) {
+    let file = match make(depot, name) {
         Ok(Made::New(file)) => file,
         Ok(Made::Exists) => return Err(CreateRefusal::Exists),
         Err(_) => return Err(CreateRefusal::Failed),
     };
-    match depot.write_at(file, 0, bytes) {
+    match write(depot, file, 0, bytes) {
         Ok(()) => {}
         Err(_) => return Err(CreateRefusal::Failed),
     }
-    match depot.sync(file) {
+    match sync(depot, file) {
         Ok(()) => Ok(file),
         Err(_) => Err(CreateRefusal::Failed),
     }

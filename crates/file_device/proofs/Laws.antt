@@ -270,9 +270,11 @@ synced {T} {E} {f} {a} {b} {result} S P R is before after =
     goes_leads S P R S P S S (sync_leads S P R is.sound is.call before) (on_ok_weaker result (λ (done : HasSynced f a b). (synced_leads S P R is.sound is.sound_on is.call done before after).after) is.done)
 
 -- what reads give after a write that ended well
-pub wrote_gives : {T E : Type 0} {f place : ℕ} {bytes : List ℕ} {a b : World} {value : T} → Wrote {T = T} {E = E} f place bytes a b (Ok value) → Gives (file_of b f) (λ c. c ≡ overlay (file_of a f).bytes place bytes)
+pub wrote_gives : {T E : Type 0} {f place : ℕ} {bytes : List ℕ} {a b : World} {value : T} (S U : List ℕ → Type 0) → Wrote {T = T} {E = E} f place bytes a b (Ok value) → ((c : List ℕ) → S c → U (overlay c place bytes)) → Gives (file_of a f) S → Gives (file_of b f) U
 unfolding file_of
-wrote_gives is told = is.done.seen (subst IsTrue is.call.run.goes.tells told)
+wrote_gives S U is makes reads told =
+    let before = subst IsTrue is.call.run.goes.tells told in
+    subst U (sym (is.done.seen before)) (makes _ (reads before))
 
 -- a sync leaves what reads give
 pub sync_seen : {T E : Type 0} {f : ℕ} {a b : World} {result : Result T E} → Synced f a b result → (file_of b f).bytes ≡ (file_of a f).bytes

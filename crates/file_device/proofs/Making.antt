@@ -5,8 +5,8 @@ use Rattle.disk_model.specs.declared.depot.Made.TheVariants.{New, Exists}
 use Rattle.disk_model.specs.Files.{IsOutcome}
 use Rattle.disk_model.specs.World.{World, versions, Holds, EachNow, Runs, nothing, making, IsNameless, MayMake, IsMade, IsQuiet, FindCause}
 use Rattle.disk_model.proofs.Laws.{run_on, run_more, nothing_within, writes_within_making, given_on, settled}
-use Rattle.file_device.specs.File.{File, Is}
-use Rattle.file_device.specs.Calls.{Puts, Goes}
+use Rattle.file_device.specs.File.{Is, file_of}
+use Rattle.file_device.specs.Calls.{Puts}
 use Rattle.file_device.specs.Names.{HasCreated, HasBegun, IsMadeEmpty, MakingFailed}
 use Rattle.file_device.proofs.Laws.{has, quiet_on}
 
@@ -66,15 +66,15 @@ pub begun_after : {name : List ℕ} {f : ℕ} {a b c : World} → Runs nothing a
 begun_after {name} {f} look is = record { run = run_on (run_more (nothing_within (making name f)) look) is.run; fresh = nameless_before look is.fresh }
 
 -- writes and syncs of the new file after it, that ended well
-pub created_on : {T E : Type 0} {P Q : List ℕ → Type 0} {R : List ℕ → Type 0} {J : File → Type 0} {name : List ℕ} {f : ℕ} {a b c : World} {value : T}
-    → HasCreated P name f a b → Puts {T = T} {E = E} f b c (Ok value) → Goes {T = T} {E = E} f (Is P) R J (λ _. Is Q) b c (Ok value) → HasCreated Q name f a c
-created_on {T} {E} {P} {Q} {R} {J} {name} {f} {a} {b} {c} {value} is puts goes = record {
+pub created_on : {T E : Type 0} {P Q : List ℕ → Type 0} {name : List ℕ} {f : ℕ} {a b c : World} {value : T}
+    → HasCreated P name f a b → Puts {T = T} {E = E} f b c (Ok value) → (Is P (file_of b f) → Is Q (file_of c f)) → HasCreated Q name f a c
+created_on {T} {E} {P} {Q} {name} {f} {a} {b} {c} {value} is puts makes = record {
   run = run_on is.run (run_more (writes_within_making name f) puts.writes);
   fresh = is.fresh;
   given = given_on puts.writes is.given;
   was_free = is.was_free;
   found = λ told. puts.writes.found name (λ no. no) ∙ is.found told;
-  holds = goes.done is.holds;
+  holds = makes is.holds;
   quiet = quiet_on is.quiet puts.calls.quiet;
 }
 

@@ -1,7 +1,7 @@
 use Rattle.std.proofs.Common.{sym, ◌∙◌, subst}
 use Rattle.std.proofs.lemmas.Result.{IfOk-weaker}
 use Rattle.backup_file.specs.Made.{IsNewSource}
-use Rattle.backup_file.proofs.Calls.{created_more}
+use Rattle.file_device.proofs.Making.{created_more}
 use Rattle.backup_file.proofs.NewFiles.{short_file}
 use Rattle.backup_file.proofs.create.create_source.Goals as goal
 
