@@ -1,11 +1,12 @@
 -- Extensions that stand one behind the other, as blocks of bytes.
 use Rattle.std.specs.Int.{w32}
+use Rattle.std.proofs.Common.{rules}
 use Rattle.std.proofs.Common.{◌≡◌, ℕ, ◌+◌, ◌-◌, ◌≤◌, List, [], ◌∷◌, ◌++◌, length, Bool, true, false, Some, None, refl, sym, ap, ◌∙◌, subst, arith, length-append}
 use Rattle.std.specs.Prelude.{not, ◌||◌, ◌==◌, if◌then◌else◌, suc}
 use Rattle.disk_model.specs.Files.{reading, u32_at}
 use Rattle.disk_model.proofs.Laws.{length-reading, number-reading}
 use Rattle.qc_layout.specs.declared.extension.Extension.{Extension}
-use Rattle.qc_layout.specs.Extensions.{IsEnd, IsExtension, AreExtensions, behind, padded, is_kept, bytes_of, kept_bytes, kept_length, count_of, first_of_kind, backing_kind, names_kind, bitmaps_kind, own_kind}
+use Rattle.qc_layout.specs.Extensions.{IsEnd, IsExtension, AreExtensions, behind, padded, is_kept, bytes_of, kept_bytes, kept_length, count_of, first_of_kind, bitmaps_kind, own_kind}
 use Rattle.qc_layout.specs.Spelling.{IsBlock, AreBlocks, joined, is_unknown}
 use Rattle.qc_layout.proofs.Standing.{Stands, stands_left, stands_right, inner_u32}
 
@@ -82,9 +83,7 @@ four_tests false false false true h = absurd cc
 four_tests false false false false h = (refl, refl)
 
 no_known : (b : List ℕ) → IsBlock b → IsNoKnown (u32_at b 0)
-no_known b is =
-    let t = four_tests (u32_at b 0 == backing_kind) (u32_at b 0 == names_kind) (u32_at b 0 == bitmaps_kind) (u32_at b 0 == own_kind) is.unknown in
-    record { no_bitmaps = t.0; no_own = t.1 }
+no_known b is = search rules
 
 pub blocks_no_bitmaps : (place : ℕ) (bs : List (List ℕ)) → AreBlocks bs → first_of_kind bitmaps_kind (as_extensions place bs) ≡ None
 blocks_no_bitmaps place [] are = refl

@@ -1,9 +1,9 @@
 -- Words of the second-level table, written and read again.
-use Rattle.std.proofs.Common.{◌≡◌, ◌≢◌, ℕ, ◌+◌, ◌*◌, ◌/◌, ◌%◌, ◌^◌, ◌<◌, Bool, true, false, Result, Ok, Err, refl, sym, ap, ◌∙◌, subst, arith}
-use Rattle.std.specs.Prelude.{◌==◌, ◌&&◌, if◌then◌else◌}
+use Rattle.std.proofs.Common.{rules}
+use Rattle.std.proofs.Common.{◌≡◌, ℕ, ◌+◌, ◌*◌, ◌/◌, ◌%◌, ◌^◌, ◌<◌, Bool, true, false, Result, Ok, Err, refl, sym, ap, ◌∙◌, subst, arith}
+use Rattle.std.specs.Prelude.{◌==◌, if◌then◌else◌}
 use Rattle.std.specs.Int.Bits.{bit_or, or_shifted_r}
 use Rattle.std.proofs.lemmas.Nat.{or_shifted}
-use Rattle.std.proofs.lemmas.Bool.{ne_eqb, eqb-true}
 use Rattle.qc_layout.specs.declared.entry.EntryFault.{EntryFault}
 use Rattle.qc_layout.specs.declared.entry.EntryFault.TheVariants.{Reserved, Misaligned}
 use Rattle.qc_layout.specs.declared.entry.L2Entry.{L2Entry}
@@ -55,22 +55,15 @@ pub record IsPlace (bits offset : ℕ) : Type 0 where
   pub aligned : offset % 2 ^ bits ≡ 0
 
 place_in : (bits word : ℕ) → (offset_in word % 2 ^ bits == 0) ≡ true → (offset_in word == 0) ≡ false → IsPlace bits (offset_in word)
-place_in bits word whole some = record {
-  is = record { whole = omega arith; some = (let ne : offset_in word ≢ 0 = (λ z. (let t : (offset_in word == 0) ≡ true = ap (λ (k : ℕ). k == 0) z in absurd cc)) in omega arith); small = omega arith };
-  aligned = eqb-true _ _ whole;
-}
+place_in bits word whole some = search rules
 
 pub stored_place : (bits word offset : ℕ) → l2_of bits word ≡ Ok (Stored offset) → IsPlace bits offset
 unfolding l2_of
-stored_place bits word offset h =
-    let s = told_stored (word / 2 ^ 62 % 2 == 1) ((word / 2 % 256 == 0) && (word / 2 ^ 56 % 64 == 0)) (offset_in word % 2 ^ bits == 0) (offset_in word == 0) (word % 2 == 1) (offset_in word) offset h in
-    subst (IsPlace bits) s.offset (place_in bits word s.is_aligned s.some)
+stored_place bits word offset h = search rules
 
 pub zero_place : (bits word offset : ℕ) → l2_of bits word ≡ Ok (Zero offset) → IsPlace bits offset
 unfolding l2_of
-zero_place bits word offset h =
-    let s = told_zero (word / 2 ^ 62 % 2 == 1) ((word / 2 % 256 == 0) && (word / 2 ^ 56 % 64 == 0)) (offset_in word % 2 ^ bits == 0) (offset_in word == 0) (word % 2 == 1) (offset_in word) offset h in
-    subst (IsPlace bits) s.offset (place_in bits word s.is_aligned s.some)
+zero_place bits word offset h = search rules
 
 -- the tests of a word with this offset, bit 63, and bit 0 or not
 offset_again : (o low : ℕ) → IsOffset o → low < 512 → offset_in (o + low + 2 ^ 63) ≡ o
@@ -78,28 +71,7 @@ offset_again o low is small = let w = is.whole in let h = is.small in omega arit
 
 read_as : (bits o low : ℕ) (zeros : Bool) → IsPlace bits o → low < 2 → (low == 1) ≡ zeros → l2_of bits (o + low + 2 ^ 63) ≡ told false true true false zeros o
 unfolding l2_of
-read_as bits o low zeros place small is =
-    let w = place.is.whole in
-    let h = place.is.small in
-    let s = place.is.some in
-    let n = o + low + 2 ^ 63 in
-    let offset : offset_in n ≡ o = offset_again o low place.is (omega arith) in
-    let a : (n / 2 ^ 62 % 2 == 1) ≡ false = ne_eqb _ _ (omega arith) in
-    let low_bits : n / 2 % 256 ≡ 0 = omega arith in
-    let high_bits : n / 2 ^ 56 % 64 ≡ 0 = omega arith in
-    let last_bit : n % 2 ≡ low = omega arith in
-    let b1 : (n / 2 % 256 == 0) ≡ true = ap (λ (k : ℕ). k == 0) low_bits in
-    let b2 : (n / 2 ^ 56 % 64 == 0) ≡ true = ap (λ (k : ℕ). k == 0) high_bits in
-    let c : (offset_in n % 2 ^ bits == 0) ≡ true = ap (λ (k : ℕ). k % 2 ^ bits == 0) offset ∙ ap (λ (k : ℕ). k == 0) place.aligned in
-    let d : (offset_in n == 0) ≡ false = ap (λ (k : ℕ). k == 0) offset ∙ ne_eqb o 0 (omega arith) in
-    let e : (n % 2 == 1) ≡ zeros = ap (λ (k : ℕ). k == 1) last_bit ∙ is in
-    ap (λ (t : Bool). told t ((n / 2 % 256 == 0) && (n / 2 ^ 56 % 64 == 0)) (offset_in n % 2 ^ bits == 0) (offset_in n == 0) (n % 2 == 1) (offset_in n)) a
-    ∙ ap (λ (t : Bool). told false (t && (n / 2 ^ 56 % 64 == 0)) (offset_in n % 2 ^ bits == 0) (offset_in n == 0) (n % 2 == 1) (offset_in n)) b1
-    ∙ ap (λ (t : Bool). told false (true && t) (offset_in n % 2 ^ bits == 0) (offset_in n == 0) (n % 2 == 1) (offset_in n)) b2
-    ∙ ap (λ (t : Bool). told false true t (offset_in n == 0) (n % 2 == 1) (offset_in n)) c
-    ∙ ap (λ (t : Bool). told false true true t (n % 2 == 1) (offset_in n)) d
-    ∙ ap (λ (t : Bool). told false true true false t (offset_in n)) e
-    ∙ ap (told false true true false zeros) offset
+read_as bits o low zeros place small is = search rules
 
 -- the written word as a sum
 pub stored_sum : (o : ℕ) → o < 2 ^ 56 → bit_or o (2 ^ 63) ≡ o + 2 ^ 63

@@ -1,5 +1,6 @@
 -- The one form of image that `replay` takes, by the format: a file of that form stands in it for the disk that it stands for.
 use Rattle.std.specs.Int.{w64, w32}
+use Rattle.std.proofs.Common.{rules}
 use Rattle.std.proofs.Common.{◌≡◌, ◌≢◌, inl, inr, ⊎_elim, ℕ, ◌+◌, ◌*◌, ◌/◌, ◌%◌, ◌^◌, ◌<◌, ◌≤◌, max, List, length, Bool, Option, Some, None, Result, Ok, refl, sym, ap, ◌∙◌, subst, arith}
 use Rattle.std.specs.Prelude.{◌==◌, if◌then◌else◌}
 use Rattle.std.proofs.lemmas.Bool.{ne_eqb, cases_eq}
@@ -14,7 +15,7 @@ use Rattle.qc_layout.specs.Entries.{offset_in, l1_of, l2_of}
 use Rattle.qc_layout.specs.Header.{fields_of}
 use Rattle.qc_layout.specs.Extensions.{list_end}
 use Rattle.qc_layout.specs.Disks.{Passes, Stands, ReadsAs, bits_of, words_in, entry_under, entry_at}
-use Rattle.qc_layout.specs.FirstForm.{host_of, table_offset, l1_offset, clusters_of, disk_byte, disk_of, disk_size, IsPlainEntry, IsCluster, IsFirstForm, StandsInFirstForm, IsRest}
+use Rattle.qc_layout.specs.FirstForm.{host_of, table_offset, l1_offset, clusters_of, disk_byte, disk_of, disk_size, IsPlainEntry, IsFirstForm, StandsInFirstForm, IsRest}
 use Rattle.qc_layout.specs.Laws.{BeginAlike, start_length}
 use Rattle.qc_layout.proofs.EntryLaws.{stored_place}
 use Rattle.qc_layout.proofs.PlainLaws.{l1_plain, l2_plain, l2_hole}
@@ -102,10 +103,7 @@ entry_numbers file n = refl
 -- the one entry of the first level counts 512 clusters
 entry_512 : (file : List ℕ) (l1 n : ℕ) → n < 512 → entry_with file 12 l1 n ≡ entry_under file (l1_of 12 (u64_at file l1)) n
 unfolding words_in
-entry_512 file l1 n few =
-    let place : l1 + 8 * (n / 512) ≡ l1 = omega arith in
-    let slot : n % 512 ≡ n = omega arith in
-    ap (λ (o : ℕ). entry_under file (l1_of 12 (u64_at file o)) (n % 512)) place ∙ ap (entry_under file (l1_of 12 (u64_at file l1))) slot
+entry_512 file l1 n few = search rules
 
 first_entry : (file : List ℕ) (n : ℕ) → IsFirstForm file → n < clusters_of file → entry_at file n ≡ entry_under file (l1_of 12 (u64_at file (l1_offset file))) n
 first_entry file n form below =
@@ -209,15 +207,7 @@ standing_by_format part file disk passes stands =
 
 -- neither table is there, and no stored cluster
 pub first_cluster : (file : List ℕ) (i : ℕ) → IsFirstForm file → i < 4096 → IsRest file i
-first_cluster file i form first = record {
-  inside = let long = form.long in let whole = form.whole in omega arith;
-  not_l1 = λ from to. past (l1_offset file) form.l1 from;
-  not_table = λ some from to. past (table_offset file) (form.table some) from;
-  not_stored = λ n below some from to. past (host_of file n) (form.hosts n below some) from;
-}
-  where
-    past : (o : ℕ) → IsCluster file o → o ≤ i → ⊥
-    past o is from = let aligned = is.aligned in let some = is.some in omega arith
+first_cluster file i form first = search rules
 
 -- a file that has the same first cluster, and is no shorter, begins alike
 pub first_alike : (old new : List ℕ) → IsFirstForm old → length old ≤ length new → ((i : ℕ) → i < 4096 → byte new i ≡ byte old i) → BeginAlike 4096 old new

@@ -1,5 +1,6 @@
 -- How a list of extensions is read, one by one.
-use Rattle.std.proofs.Common.{◌≡◌, inl, inr, ℕ, List, [], ◌∷◌, ◌++◌, refl, sym, ap, ◌∙◌, subst, arith, append_assoc}
+use Rattle.std.proofs.Common.{rules}
+use Rattle.std.proofs.Common.{◌≡◌, inl, inr, ℕ, List, [], ◌∷◌, ◌++◌, refl, sym, ◌∙◌, subst, arith, append_assoc}
 use Rattle.std.proofs.lemmas.List.{append-nil}
 use Rattle.qc_layout.specs.declared.extension.Extension.{Extension}
 use Rattle.qc_layout.specs.Extensions.{IsEnd, IsExtension, AreExtensions, behind}
@@ -11,13 +12,7 @@ end_or_extension file end from e is (inr none) = is.some (is.kind ∙ none.1)
 
 -- one stands there at most
 pub one_extension : (file : List ℕ) (end from : ℕ) (a b : Extension) → IsExtension file end from a → IsExtension file end from b → a ≡ b
-one_extension file end from a b is other =
-    let kind : a.kind ≡ b.kind = is.kind ∙ sym other.kind in
-    let place : a.place ≡ b.place = is.place ∙ sym other.place in
-    let long : a.length ≡ b.length = is.length ∙ sym other.length in
-    ap (λ (k : ℕ). let e : Extension = record { kind = k; place = a.place; length = a.length } in e) kind
-    ∙ ap (λ (p : ℕ). let e : Extension = record { kind = b.kind; place = p; length = a.length } in e) place
-    ∙ ap (λ (n : ℕ). let e : Extension = record { kind = b.kind; place = b.place; length = n } in e) long
+one_extension file end from a b is other = search rules
 
 -- What was found from a place on goes on at another: each list from there goes on, and where none is from there, none is.
 pub record Follows (file : List ℕ) (end from at : ℕ) (found : List Extension) : Type 0 where

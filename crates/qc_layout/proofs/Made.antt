@@ -1,4 +1,5 @@
 -- The header that was made is the one that the bytes spell.
+use Rattle.std.proofs.Common.{rules}
 use Rattle.std.proofs.Common.{◌≡◌, ℕ, List, ◌++◌, length, None, sym, ap, ◌∙◌, subst, arith}
 use Rattle.std.specs.List.{All}
 use Rattle.std.proofs.lemmas.List.Elements.{All-same}
@@ -44,12 +45,7 @@ pub record HasRead (part : Part) (file : List ℕ) (f : Fields) (end from : ℕ)
 
 -- the extensions are those of the file
 pub read_listed : (part : Part) (file : List ℕ) (f : Fields) (end from : ℕ) (es passed : List Extension) → HasRead part file f end from es passed → AreIn file passed
-read_listed part file f end from es passed has =
-    let e : end ≡ list_end (fields_of file).cluster_bits = has.ends ∙ ap (λ (g : Fields). list_end g.cluster_bits) has.read in
-    let s : from ≡ (fields_of file).header_length = has.starts ∙ ap (λ (g : Fields). g.header_length) has.read in
-    subst (λ (n : ℕ). AreExtensions file (list_end (fields_of file).cluster_bits) n passed) s
-    (subst (λ (n : ℕ). AreExtensions file n from passed) e
-    (subst (λ (l : List Extension). AreExtensions file end from l) (sym has.same) has.listed))
+read_listed part file f end from es passed has = search rules
 
 pub read_made : (part : Part) (file : List ℕ) (f : Fields) (end from : ℕ) (es passed : List Extension) (h : Header) → HasRead part file f end from es passed
     → first_of (extension_rules part file f passed) ≡ None → IsMade file f passed h → IsHeaderOf part file h

@@ -1,4 +1,5 @@
 -- What holds where the rules of a header pass.
+use Rattle.std.proofs.Common.{rules}
 use Rattle.std.proofs.Common.{◌≡◌, ℕ, ◌%◌, ◌≤◌, Bool, true, false, List, [], ◌∷◌, Option, Some, None, refl, arith}
 use Rattle.std.specs.Prelude.{not, nat_lt, ◌==◌, ◌||◌, if◌then◌else◌}
 use Rattle.std.specs.List.{All}
@@ -50,7 +51,7 @@ pub record IsLength (n : ℕ) : Type 0 where
   pub whole : n % 8 ≡ 0
 
 length_is : (n : ℕ) → (nat_lt n 104 || nat_lt 504 n || not (n % 8 == 0)) ≡ false → IsLength n
-length_is n h = record { low = grind (arith, nat_tests); high = grind (arith, nat_tests); whole = grind (arith, nat_tests) }
+length_is n h = search rules
 
 pub record AreBits (n : ℕ) : Type 0 where
   pub low : 9 ≤ n
@@ -69,11 +70,7 @@ all_pass [] none = tt
 all_pass (r ∷ rs) none = let p = passed r.fails r.fault (first_of rs) none in (p.here, all_pass rs p.on)
 
 form_passes : (length : ℕ) (h : Fields) → first_of (form_rules length h) ≡ None → Passes length h
-form_passes length h none =
-    let t = all_pass (form_rules length h) none in
-    let l = length_is h.header_length t.1.1.1.0 in
-    let b = bits_are h.cluster_bits t.1.1.1.1.0 in
-    record { long = long_enough length t.0; length_low = l.low; length_high = l.high; length_whole = l.whole; bits_low = b.low; bits_high = b.high }
+form_passes length h none = search rules
 
 pub numbers_pass : (part : Part) (length : ℕ) (h : Fields) → number_fault part length h ≡ None → Passes length h
 numbers_pass part length h none = form_passes length h (none_left (first_of (form_rules length h)) (or_else (first_of (feature_rules part h)) (first_of (table_rules h))) none)

@@ -1,13 +1,13 @@
 -- Plain entries of both levels: what is read of a word that is 0 or names a stored cluster, and which words that is read of.
-use Rattle.std.proofs.Common.{◌≡◌, ◌≢◌, ◌⊎◌, inl, inr, ⊎_elim, ℕ, ◌/◌, ◌%◌, ◌^◌, Bool, true, false, Option, Some, None, Result, Ok, Err, refl, sym, ap, ◌∙◌, arith}
+use Rattle.std.proofs.Common.{rules}
+use Rattle.std.proofs.Common.{◌≡◌, ◌≢◌, ◌⊎◌, inl, inr, ⊎_elim, ℕ, ◌/◌, ◌%◌, ◌^◌, Bool, true, false, Option, Some, None, Result, Ok, Err, refl, ap, ◌∙◌}
 use Rattle.std.specs.Prelude.{◌==◌, ◌&&◌, if◌then◌else◌}
-use Rattle.std.proofs.lemmas.Bool.{ne_eqb, eqb-true}
 use Rattle.qc_layout.specs.declared.entry.EntryFault.{EntryFault}
 use Rattle.qc_layout.specs.declared.entry.EntryFault.TheVariants.{Reserved, Misaligned}
 use Rattle.qc_layout.specs.declared.entry.L2Entry.TheVariants.{Hole, Stored}
 use Rattle.qc_layout.specs.Entries.{offset_in, l1_of, l2_of}
 use Rattle.qc_layout.specs.FirstForm.{IsPlainEntry}
-use Rattle.qc_layout.proofs.EntryLaws.{told, told_stored}
+use Rattle.qc_layout.proofs.EntryLaws.{told}
 
 -- a plain entry whose offset is aligned, and that offset
 pub record IsPlainAt (bits word offset : ℕ) : Type 0 where
@@ -55,31 +55,17 @@ told1_none true true false o h = absurd cc
 -- a word that is read as an offset
 pub l1_some : (bits word offset : ℕ) → l1_of bits word ≡ Ok (Some offset) → IsPlainAt bits word offset
 unfolding l1_of
-l1_some bits word offset h =
-    let s = told1_some ((word % 512 == 0) && (word / 2 ^ 56 % 128 == 0)) (offset_in word % 2 ^ bits == 0) (offset_in word == 0) (offset_in word) offset h in
-    let zeros = both (word % 512 == 0) (word / 2 ^ 56 % 128 == 0) s.is_plain in
-    record {
-      plain = record { low = eqb-true _ _ zeros.0; high = eqb-true _ _ zeros.1; zero_or_stored = λ z. absurd (some_offset (offset_in word) s.some z) };
-      aligned = eqb-true _ _ s.is_aligned;
-      is = s.offset;
-    }
+l1_some bits word offset h = search rules
 
 -- one that is read as none
 pub l1_none : (bits word : ℕ) → l1_of bits word ≡ Ok None → offset_in word ≡ 0
 unfolding l1_of
-l1_none bits word h =
-    eqb-true _ _ (told1_none ((word % 512 == 0) && (word / 2 ^ 56 % 128 == 0)) (offset_in word % 2 ^ bits == 0) (offset_in word == 0) (offset_in word) h)
+l1_none bits word h = search rules
 
 -- what is read of a plain word
 pub l1_plain : (bits word : ℕ) → IsPlainEntry word → offset_in word % 2 ^ bits ≡ 0 → l1_of bits word ≡ Ok (if offset_in word == 0 then None else Some (offset_in word))
 unfolding l1_of
-l1_plain bits word plain aligned =
-    let a : (word % 512 == 0) ≡ true = ap (λ (k : ℕ). k == 0) plain.low in
-    let b : (word / 2 ^ 56 % 128 == 0) ≡ true = ap (λ (k : ℕ). k == 0) plain.high in
-    let c : (offset_in word % 2 ^ bits == 0) ≡ true = ap (λ (k : ℕ). k == 0) aligned in
-    ap (λ (t : Bool). told1 (t && (word / 2 ^ 56 % 128 == 0)) (offset_in word % 2 ^ bits == 0) (offset_in word == 0) (offset_in word)) a
-    ∙ ap (λ (t : Bool). told1 (true && t) (offset_in word % 2 ^ bits == 0) (offset_in word == 0) (offset_in word)) b
-    ∙ ap (λ (t : Bool). told1 true t (offset_in word == 0) (offset_in word)) c
+l1_plain bits word plain aligned = cc
 
 -- ---- the second level
 
@@ -94,50 +80,22 @@ told_hole false true true false false o h = absurd cc
 
 -- the tests of the second level leave no bit of a plain entry out
 bits_plain : (word : ℕ) → (word / 2 ^ 62 % 2 == 1) ≡ false → (word / 2 % 256 == 0) ≡ true → (word / 2 ^ 56 % 64 == 0) ≡ true → (word % 2 == 1) ≡ false → (word % 512 ≡ 0) × (word / 2 ^ 56 % 128 ≡ 0)
-bits_plain word a b c d =
-    let ne : word / 2 ^ 62 % 2 ≢ 1 = (λ z. let t : (word / 2 ^ 62 % 2 == 1) ≡ true = ap (λ (k : ℕ). k == 1) z in absurd cc) in
-    let even : word % 2 ≢ 1 = (λ z. let t : (word % 2 == 1) ≡ true = ap (λ (k : ℕ). k == 1) z in absurd cc) in
-    let low : word / 2 % 256 ≡ 0 = eqb-true _ _ b in
-    let high : word / 2 ^ 56 % 64 ≡ 0 = eqb-true _ _ c in
-    (omega arith, omega arith)
+bits_plain word a b c d = search rules
 
 -- a word that is read as a stored cluster
 pub l2_stored : (bits word offset : ℕ) → l2_of bits word ≡ Ok (Stored offset) → IsPlainAt bits word offset
 unfolding l2_of
-l2_stored bits word offset h =
-    let s = told_stored (word / 2 ^ 62 % 2 == 1) ((word / 2 % 256 == 0) && (word / 2 ^ 56 % 64 == 0)) (offset_in word % 2 ^ bits == 0) (offset_in word == 0) (word % 2 == 1) (offset_in word) offset h in
-    let zeros = both (word / 2 % 256 == 0) (word / 2 ^ 56 % 64 == 0) s.is_plain in
-    let p = bits_plain word s.not_compressed zeros.0 zeros.1 s.not_zeros in
-    record {
-      plain = record { low = p.0; high = p.1; zero_or_stored = λ z. absurd (some_offset (offset_in word) s.some z) };
-      aligned = eqb-true _ _ s.is_aligned;
-      is = sym s.offset;
-    }
+l2_stored bits word offset h = search rules
 
 -- one that is read as a hole
 pub l2_hole : (bits word : ℕ) → l2_of bits word ≡ Ok Hole → offset_in word ≡ 0
 unfolding l2_of
-l2_hole bits word h =
-    eqb-true _ _ (told_hole (word / 2 ^ 62 % 2 == 1) ((word / 2 % 256 == 0) && (word / 2 ^ 56 % 64 == 0)) (offset_in word % 2 ^ bits == 0) (offset_in word == 0) (word % 2 == 1) (offset_in word) h)
+l2_hole bits word h = search rules
 
 -- the tests of a plain word
 plain_told : (bits word : ℕ) → IsPlainEntry word → offset_in word % 2 ^ bits ≡ 0 → l2_of bits word ≡ told false true true (offset_in word == 0) false (offset_in word)
 unfolding l2_of
-plain_told bits word plain aligned =
-    let low = plain.low in
-    let high = plain.high in
-    let a : (word / 2 ^ 62 % 2 == 1) ≡ false = ne_eqb _ _ (omega arith) in
-    let low_bits : word / 2 % 256 ≡ 0 = omega arith in
-    let high_bits : word / 2 ^ 56 % 64 ≡ 0 = omega arith in
-    let b : (word / 2 % 256 == 0) ≡ true = ap (λ (k : ℕ). k == 0) low_bits in
-    let c : (word / 2 ^ 56 % 64 == 0) ≡ true = ap (λ (k : ℕ). k == 0) high_bits in
-    let d : (offset_in word % 2 ^ bits == 0) ≡ true = ap (λ (k : ℕ). k == 0) aligned in
-    let e : (word % 2 == 1) ≡ false = ne_eqb _ _ (omega arith) in
-    ap (λ (t : Bool). told t ((word / 2 % 256 == 0) && (word / 2 ^ 56 % 64 == 0)) (offset_in word % 2 ^ bits == 0) (offset_in word == 0) (word % 2 == 1) (offset_in word)) a
-    ∙ ap (λ (t : Bool). told false (t && (word / 2 ^ 56 % 64 == 0)) (offset_in word % 2 ^ bits == 0) (offset_in word == 0) (word % 2 == 1) (offset_in word)) b
-    ∙ ap (λ (t : Bool). told false (true && t) (offset_in word % 2 ^ bits == 0) (offset_in word == 0) (word % 2 == 1) (offset_in word)) c
-    ∙ ap (λ (t : Bool). told false true t (offset_in word == 0) (word % 2 == 1) (offset_in word)) d
-    ∙ ap (λ (t : Bool). told false true true (offset_in word == 0) t (offset_in word)) e
+plain_told bits word plain aligned = search rules
 
 -- they leave two answers
 hole_or_stored : (d : Bool) (o : ℕ) → (told false true true d false o ≡ Ok Hole) ⊎ (told false true true d false o ≡ Ok (Stored o))

@@ -1,30 +1,19 @@
 -- Steps that write behind one another.
-use Rattle.std.proofs.Common.{◌≡◌, inl, inr, ℕ, ◌+◌, ◌-◌, min, List, [], ◌∷◌, ◌++◌, length, take, drop, replicate, sym, ap, ◌∙◌, subst, arith, append_assoc, length-append}
-use Rattle.std.proofs.lemmas.List.{append-nil, drop-replicate, drop_all}
-use Rattle.std.proofs.lemmas.Bool.{cases_lt}
+use Rattle.std.proofs.Common.{rules}
+use Rattle.std.proofs.lemmas.Grind.{common_steps}
+use Rattle.std.proofs.Common.{◌≡◌, ℕ, ◌+◌, ◌-◌, min, List, [], ◌∷◌, ◌++◌, length, take, drop, replicate, ap, ◌∙◌, subst, arith, length-append}
+use Rattle.std.proofs.lemmas.List.{drop-replicate}
 use Rattle.std.proofs.Math.Seq.{take-append_seam, drop-append-add}
 use Rattle.qc_layout.specs.declared.writing.Word.{Word}
-use Rattle.qc_layout.specs.Spelling.{Puts, sector_with, word_bytes, words_bytes, IsSmallWord, AreSmallWords}
+use Rattle.qc_layout.specs.Spelling.{Puts, word_bytes, words_bytes, IsSmallWord, AreSmallWords}
 
 -- nothing is written
 pub puts_none : (bytes old : List ℕ) (place : ℕ) → bytes ≡ [] → Puts bytes old place old place
-puts_none bytes old place none = record {
-  behind = λ before room start is.
-      let same : before ≡ before ++ bytes = sym (append-nil before) ∙ ap (λ (l : List ℕ). before ++ l) (sym none) in
-      (start ∙ ap length same, is ∙ ap sector_with same);
-}
+puts_none bytes old place none = search rules
 
 -- one step behind the other
 pub puts_on : {a b old mid new : List ℕ} {place next end : ℕ} → Puts a old place mid next → Puts b mid next new end → Puts (a ++ b) old place new end
-puts_on {a} {b} {old} {mid} {new} {place} {next} {end} first second = record {
-  behind = λ before room start is.
-      let long = length-append a b in
-      let whole = length-append before a in
-      let one = first.behind before (omega arith) start is in
-      let two = second.behind (before ++ a) (omega arith) one.0 one.1 in
-      let same : (before ++ a) ++ b ≡ before ++ (a ++ b) = append_assoc before a b in
-      (two.0 ∙ ap length same, two.1 ∙ ap sector_with same);
-}
+puts_on {a} {b} {old} {mid} {new} {place} {next} {end} first second = grind (arith, common_steps)
 
 -- the same bytes
 pub puts_as : {a b old new : List ℕ} {place end : ℕ} → a ≡ b → Puts a old place new end → Puts b old place new end
@@ -52,10 +41,7 @@ puts_over bytes old new place put = record {
 
 -- what is behind the first bytes of a list, as many as it has at most
 pub drop_least : (n : ℕ) (l : List ℕ) → drop (min n (length l)) l ≡ drop n l
-drop_least n l = elim (cases_lt n (length l)) [
-  | inl less ↦ (let same : min n (length l) ≡ n = omega arith in ap (λ (k : ℕ). drop k l) same)
-  | inr more ↦ (let same : min n (length l) ≡ length l = omega arith in ap (λ (k : ℕ). drop k l) same ∙ drop_all (length l) l (omega arith) ∙ sym (drop_all n l more))
-]
+drop_least n l = grind (arith, common_steps)
 
 -- ---- numbers
 
@@ -66,7 +52,4 @@ pub record PutsOn (words rest : List Word) (old : List ℕ) (place : ℕ) (now :
 
 pub puts_next : (words : List Word) (w : Word) (rest : List Word) (old now next : List ℕ) (place at end : ℕ) → PutsOn words (w ∷ rest) old place now at → Puts (word_bytes w) now at next end → IsSmallWord w
     → PutsOn words rest old place next end
-puts_next words w rest old now next place at end before step small = record {
-  puts = λ new last more. before.puts new last (puts_on step more);
-  small = λ are. before.small (small, are);
-}
+puts_next words w rest old now next place at end before step small = grind (arith, common_steps)

@@ -1,8 +1,10 @@
 -- A record written piece by piece, and read again.
+use Rattle.std.proofs.Common.{rules}
+use Rattle.std.proofs.lemmas.Grind.{common_steps}
 use Rattle.std.proofs.Common.{◌≡◌, ℕ, ◌+◌, ◌^◌, ◌<◌, List, [], ◌++◌, length, take, drop, replicate, Bool, true, false, Option, Some, None, refl, sym, ap, ◌∙◌, subst, arith, length-append, append_assoc, drop-drop}
 use Rattle.std.specs.Prelude.{not, ◌&&◌, ◌||◌, nat_lt, ◌==◌, if◌then◌else◌}
 use Rattle.std.specs.Int.{to_be_bytes, w32, w64}
-use Rattle.std.proofs.Math.Seq.{take-append_seam, drop-append-add, drop-length}
+use Rattle.std.proofs.Math.Seq.{take-append_seam, drop-append-add}
 use Rattle.std.proofs.lemmas.List.{append-nil}
 use Rattle.disk_model.specs.Files.{reading, u32_at, u64_at}
 use Rattle.disk_model.proofs.Laws.{reading-append, number-append, length-reading}
@@ -37,24 +39,17 @@ step done start out bytes new at begun long is = record { is = is ∙ ap (λ (n 
         ∙ ap (λ (l : List ℕ). done ++ bytes ++ l) (drop-append-add done rest (length bytes) ∙ drop-drop (length bytes) (length done) start ∙ ap (λ (n : ℕ). drop n start) (sym (length-append done bytes)))
 
 pub ended : (done start out : List ℕ) → IsBegun done start out → length done ≡ length start → out ≡ done
-ended done start out begun long = begun.is ∙ ap (λ (n : ℕ). done ++ drop n start) long ∙ ap (λ (l : List ℕ). done ++ l) (drop-length start) ∙ append-nil done
+ended done start out begun long = grind (arith, common_steps)
 
 -- two pieces
 pub two : (start a b x y : List ℕ) (i : ℕ) → length a ≡ i → length a + length b ≡ length start
     → x ≡ take 0 start ++ a ++ drop (0 + length a) start → y ≡ take i x ++ b ++ drop (i + length b) x → y ≡ a ++ b
-two start a b x y i one all first second =
-    let p = step [] start start a x 0 (unbegun start) refl first in
-    let q = step a start x b y i p one second in
-    ended (a ++ b) start y q (omega (arith, length-append a b))
+two start a b x y i one all first second = grind (arith, common_steps)
 
 -- three pieces
 pub three : (start a b c x y z : List ℕ) (i j : ℕ) → length a ≡ i → i + length b ≡ j → length a + length b + length c ≡ length start
     → x ≡ take 0 start ++ a ++ drop (0 + length a) start → y ≡ take i x ++ b ++ drop (i + length b) x → z ≡ take j y ++ c ++ drop (j + length c) y → z ≡ a ++ b ++ c
-three start a b c x y z i j one two all first second third =
-    let p = step [] start start a x 0 (unbegun start) refl first in
-    let q = step a start x b y i p one second in
-    let r = step (a ++ b) start y c z j q (omega (arith, length-append a b)) third in
-    ended ((a ++ b) ++ c) start z r (omega (arith, length-append (a ++ b) c, length-append a b))
+three start a b c x y z i j one two all first second third = grind (arith, common_steps)
 
 -- ---- the parts of a whole record
 
@@ -140,19 +135,7 @@ fault_from v n k unit = fault_by (v == 1) (nat_lt 2 n) (nat_lt 3 k || ((n == 2) 
 
 fault_none : (bits : ℕ) (whole : List ℕ) (s : State) (b : Base) (u : ℕ) → Starts whole (state_number s) (kind_number s b) u → (u == 2 ^ bits) ≡ true → record_fault bits whole ≡ None
 unfolding record_fault
-fault_none bits whole s b u at is =
-    ap (λ (v : ℕ). fault_from v (state_in whole) (kind_in whole) (unit_in whole == 2 ^ bits)) at.version
-    ∙ ap (λ (v : ℕ). fault_from 1 v (kind_in whole) (unit_in whole == 2 ^ bits)) at.state
-    ∙ ap (λ (v : ℕ). fault_from 1 (state_number s) v (unit_in whole == 2 ^ bits)) at.kind
-    ∙ ap (fault_from 1 (state_number s) (kind_number s b)) (ap (λ (v : ℕ). v == 2 ^ bits) at.unit ∙ is)
-    ∙ taken s b
-  where
-    taken : (t : State) (d : Base) → fault_from 1 (state_number t) (kind_number t d) true ≡ None
-    taken Blank d = refl
-    taken Begun d = refl
-    taken Sealed Whole = refl
-    taken Sealed (Since p) = refl
-    taken Sealed Loose = refl
+fault_none bits whole s b u at is = search rules
 
 -- what is read, by the parts
 abbrev said_by : (s k u : ℕ) (id : List ℕ) (p q : Point) → Record
@@ -195,28 +178,13 @@ IsBaseAt whole b = Unit {0}
 sealed_of : (whole : List ℕ) (b : Base) (id : List ℕ) (q : Point) (u : ℕ) → Starts whole 2 (kind_number Sealed b) u → reading whole 16 16 ≡ id → point_in whole 48 ≡ q → IsBaseAt whole b
     → record_of whole ≡ record { state = Sealed; disk = id; base = b; point = q; unit = u }
 unfolding record_of
-sealed_of whole b id q u at is_id is_point is_base =
-    ap (λ (n : ℕ). said_by n (kind_in whole) (unit_in whole) (reading whole 16 16) (point_in whole 32) (point_in whole 48)) at.state
-    ∙ ap (λ (n : ℕ). said_by 2 n (unit_in whole) (reading whole 16 16) (point_in whole 32) (point_in whole 48)) at.kind
-    ∙ ap (λ (n : ℕ). said_by 2 (kind_number Sealed b) n (reading whole 16 16) (point_in whole 32) (point_in whole 48)) at.unit
-    ∙ ap (λ (l : List ℕ). said_by 2 (kind_number Sealed b) u l (point_in whole 32) (point_in whole 48)) is_id
-    ∙ ap (λ (p : Point). said_by 2 (kind_number Sealed b) u id (point_in whole 32) p) is_point
-    ∙ based b is_base
-  where
-    based : (d : Base) → IsBaseAt whole d → said_by 2 (kind_number Sealed d) u id (point_in whole 32) q ≡ record { state = Sealed; disk = id; base = d; point = q; unit = u }
-    based Whole is = refl
-    based (Since p) is = ap (λ (x : Point). said_by 2 2 u id x q) is
-    based Loose is = refl
+sealed_of whole b id q u at is_id is_point is_base = search rules
 
 -- one that isn't sealed
 open_of : (whole : List ℕ) (s : State) (n k u : ℕ) → Starts whole n k u → ((n == 2) ≡ false) → ((if n == 0 then Blank else Begun) ≡ s)
     → record_of whole ≡ record { state = s; disk = replicate 16 0; base = Loose; point = record { epoch = 0; serial = 0 }; unit = u }
 unfolding record_of
-open_of whole s n k u at unsealed is =
-    ap (λ (v : ℕ). said_by v (kind_in whole) (unit_in whole) (reading whole 16 16) (point_in whole 32) (point_in whole 48)) at.state
-    ∙ ap (λ (v : ℕ). said_by n (kind_in whole) v (reading whole 16 16) (point_in whole 32) (point_in whole 48)) at.unit
-    ∙ ap (λ (t : Bool). if t then record { state = Sealed; disk = reading whole 16 16; base = base_in whole; point = point_in whole 48; unit = u } else record { state = if n == 0 then Blank else Begun; disk = replicate 16 0; base = Loose; point = record { epoch = 0; serial = 0 }; unit = u }) unsealed
-    ∙ ap (λ (t : State). record { state = t; disk = replicate 16 0; base = Loose; point = record { epoch = 0; serial = 0 }; unit = u }) is
+open_of whole s n k u at unsealed is = cc
 
 -- the same record, written and read
 pub record IsSaid (bits : ℕ) (r : Record) (whole : List ℕ) : Type 0 where
@@ -318,4 +286,4 @@ reads_back bits bytes r low none is =
 -- the whole of the bytes that are written
 pub whole_is : (r : Record) (whole head claim : List ℕ) → whole ≡ head ++ claim → head ≡ head_of r.state r.base r.unit → claim ≡ claim_bytes r → whole ≡ record_bytes r
 unfolding record_bytes
-whole_is r whole head claim is first second = is ∙ ap (λ (l : List ℕ). l ++ claim) first ∙ ap (λ (l : List ℕ). head_of r.state r.base r.unit ++ l) second
+whole_is r whole head claim is first second = cc

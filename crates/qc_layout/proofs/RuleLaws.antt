@@ -1,7 +1,8 @@
 -- Rules that no one fails.
+use Rattle.std.proofs.Common.{rules}
 use Rattle.std.proofs.Common.{◌≡◌, ℕ, ◌%◌, ◌≤◌, List, [], ◌∷◌, Bool, true, false, Option, Some, None, refl, arith}
 use Rattle.std.specs.Prelude.{not, ◌&&◌, ◌||◌, nat_lt, ◌==◌, if◌then◌else◌}
-use Rattle.std.proofs.lemmas.Bool.{eqb-true, ltb-false, le-ltb, not-false, not-true}
+use Rattle.std.proofs.lemmas.Bool.{eqb-true, ltb-false, not-false, not-true}
 use Rattle.qc_layout.specs.declared.header.Fields.{Fields}
 use Rattle.qc_layout.specs.declared.header.HeaderFault.{HeaderFault}
 use Rattle.qc_layout.specs.declared.header.Part.{Part}
@@ -79,8 +80,4 @@ are_passed part n f passed =
 
 -- they pass in a file of another length too
 pub passed_in : (part : Part) (m n : ℕ) (f : Fields) → 104 ≤ n → number_fault part m f ≡ None → number_fault part n f ≡ None
-passed_in part m n f long passed =
-    let rest = none_or (first_of (form_rules m f)) (or_else (first_of (feature_rules part f)) (first_of (table_rules f))) passed in
-    let form = none_fails (form_rules m f) rest.0 in
-    or_none (first_of (form_rules n f)) (or_else (first_of (feature_rules part f)) (first_of (table_rules f)))
-    (no_fault (form_rules n f) (le-ltb n 104 long, form.1)) rest.1
+passed_in part m n f long passed = search rules

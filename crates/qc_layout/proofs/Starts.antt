@@ -1,5 +1,6 @@
 -- What is read of a file depends on its first sector alone, and on its first cluster up to 65536 bytes.
 use Rattle.std.specs.Int.{w64, w32}
+use Rattle.std.proofs.Common.{rules}
 use Rattle.std.proofs.Common.{◌≡◌, ◌⊎◌, inl, inr, ℕ, ◌+◌, ◌-◌, ◌*◌, ◌%◌, ◌^◌, ◌<◌, ◌≤◌, max, Bool, true, false, List, [], ◌∷◌, ◌++◌, length, take, Option, Some, None, refl, sym, ap, ◌∙◌, subst, arith, get_or-take, length-take}
 use Rattle.std.specs.Prelude.{not, nat_lt, ◌==◌, ◌||◌, if◌then◌else◌}
 use Rattle.std.proofs.lemmas.Bool.{eqb-true}
@@ -195,11 +196,7 @@ own_length parts.Foreign e good = inl (grind (arith, nat_tests))
 
 -- an extension of these lengths lies whole in those bytes
 own_fits : {n : ℕ} (part : Part) (e : Extension) → IsIn n e → is_bad_own part (Some e) ≡ false → (e.length == 40) ≡ false → e.place + 64 ≤ n
-own_fits {n} part e near good other = own_inside (own_length part e good) near other
-  where
-    own_inside : (e.length ≡ 40) ⊎ (e.length ≡ 64) → IsIn n e → (e.length == 40) ≡ false → e.place + 64 ≤ n
-    own_inside (inl short) near other = let t : (e.length == 40) ≡ true = ap (λ (n : ℕ). n == 40) short in absurd cc
-    own_inside (inr long) near other = let h = near.high in omega arith
+own_fits {n} part e near good other = search rules
 
 own_if : (t : Bool) (a b : List ℕ) (place : ℕ)
     → (t ≡ true → (reading a place 16 ≡ reading b place 16) × (u64_at a (place + 16) ≡ u64_at b (place + 16)) × (u64_at a (place + 24) ≡ u64_at b (place + 24)) × (u64_at a (place + 32) ≡ u64_at b (place + 32)))

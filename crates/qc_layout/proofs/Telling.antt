@@ -1,4 +1,5 @@
 -- What a file tells that begins with a new header: its numbers, its extensions, and nothing else of this project's own.
+use Rattle.std.proofs.Common.{rules}
 use Rattle.std.proofs.Common.{◌≡◌, inr, ℕ, ◌+◌, ◌≤◌, List, [], ◌∷◌, ◌++◌, length, drop, replicate, Bool, false, None, refl, sym, ap, ◌∙◌, subst, arith, length-append}
 use Rattle.std.specs.Prelude.{codes, not, ◌&&◌, nat_lt}
 use Rattle.std.proofs.lemmas.Bool.{le-ltb}
@@ -36,12 +37,7 @@ pub record Tells (part : Part) (file : List ℕ) (h : Header) : Type 0 where
   pub says : h.own ≡ own_in file (first_of_kind own_kind extensions)
 
 pub tells_passes : (part : Part) (file : List ℕ) (h : Header) → Tells part file h → Passes part file
-tells_passes part file h t = record {
-  numbers = subst (λ (f : Fields). number_fault part (length file) f ≡ None) (sym t.fields) t.numbers;
-  extensions = t.extensions;
-  listed = subst (λ (f : Fields). AreExtensions file (list_end f.cluster_bits) f.header_length t.extensions) (sym t.fields) t.listed;
-  rules = subst (λ (f : Fields). first_of (extension_rules part file f t.extensions) ≡ None) (sym t.fields) t.rules;
-}
+tells_passes part file h t = search rules
 
 -- these are all of its extensions
 told_list : (part : Part) (file : List ℕ) (h : Header) (t : Tells part file h) (es : List Extension) → AreIn file es → es ≡ t.extensions

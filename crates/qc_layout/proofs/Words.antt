@@ -1,26 +1,19 @@
 -- The parts of a written header, as words of four and of eight bytes.
-use Rattle.std.proofs.Common.{◌≡◌, ℕ, ◌<◌, ◌≤◌, List, [], ◌∷◌, ◌++◌, take, refl, sym, ap, Bool, Some, None}
-use Rattle.std.proofs.lemmas.Bool.{lt-ltb, le-ltb}
-use Rattle.std.specs.Prelude.{nat_lt, if◌then◌else◌}
-use Rattle.qc_layout.specs.declared.header.DirPlace.{DirPlace}
+use Rattle.std.proofs.Common.{rules}
+use Rattle.std.proofs.Common.{◌≡◌, ◌<◌, ◌≤◌, [], ◌∷◌, ◌++◌, take, refl, None}
 use Rattle.qc_layout.specs.declared.header.Header.{Header}
 use Rattle.qc_layout.specs.declared.header.Own.TheVariants as owns
-use Rattle.qc_layout.specs.Extensions.{own_kind, bitmaps_kind}
 use Rattle.qc_layout.specs.Spelling.{words_bytes, number_words, number_bytes, tail_bytes, tail_length, own_bytes, bitmaps_bytes, header_bytes, kept_part}
 
 -- a header of 104 bytes has no more
 pub no_tail_bytes : (h : Header) → h.fields.header_length ≤ 104 → tail_bytes h ≡ []
 unfolding tail_bytes
-no_tail_bytes h short =
-    let t : nat_lt 104 h.fields.header_length ≡ Bool.false = le-ltb _ _ short in
-    ap (λ (b : Bool). if b then (h.fields.compression_type ∷ 0 ∷ 0 ∷ 0 ∷ 0 ∷ 0 ∷ 0 ∷ 0 ∷ []) ++ take (tail_length h) h.kept.items.items else []) t
+no_tail_bytes h short = search rules
 
 -- a longer one has a compression type and what is kept
 pub tail_words : (h : Header) → 104 < h.fields.header_length → (h.fields.compression_type ∷ 0 ∷ 0 ∷ 0 ∷ 0 ∷ 0 ∷ 0 ∷ 0 ∷ []) ++ take (tail_length h) h.kept.items.items ≡ tail_bytes h
 unfolding tail_bytes
-tail_words h long =
-    let t : Bool.true ≡ nat_lt 104 h.fields.header_length = sym (lt-ltb _ _ long) in
-    ap (λ (b : Bool). if b then (h.fields.compression_type ∷ 0 ∷ 0 ∷ 0 ∷ 0 ∷ 0 ∷ 0 ∷ 0 ∷ []) ++ take (tail_length h) h.kept.items.items else []) t
+tail_words h long = search rules
 
 pub no_own_bytes : own_bytes owns.Absent ≡ []
 unfolding own_bytes

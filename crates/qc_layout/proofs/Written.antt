@@ -1,10 +1,10 @@
 -- A header that was written is read again, by whoever reads a file that begins with its sector.
-use Rattle.std.proofs.Common.{◌≡◌, inl, inr, ⊎_elim, ℕ, ◌+◌, ◌-◌, ◌^◌, ◌<◌, ◌≤◌, List, [], ◌∷◌, ◌++◌, length, take, drop, replicate, Bool, true, false, Option, Some, None, refl, sym, ap, ◌∙◌, subst, arith, length-append}
+use Rattle.std.proofs.Common.{◌≡◌, inl, inr, ℕ, ◌+◌, ◌-◌, ◌^◌, ◌<◌, ◌≤◌, List, [], ◌∷◌, ◌++◌, length, take, drop, replicate, Bool, false, Option, Some, None, refl, sym, ap, ◌∙◌, subst, arith, length-append}
 use Rattle.std.specs.Prelude.{not, ◌&&◌, ◌||◌, nat_lt, ◌==◌, if◌then◌else◌}
-use Rattle.std.proofs.lemmas.Bool.{cases_lt, le-ltb, ltb-false, eqb-true, eqb-false, ne_eqb, eq-eqb, not-false}
+use Rattle.std.proofs.lemmas.Bool.{cases_lt, le-ltb, ltb-false, eqb-true, eqb-false, ne_eqb, not-false}
 use Rattle.std.proofs.lemmas.List.{length-take, length-replicate, take-append-drop}
 use Rattle.std.proofs.Math.Nat.{pow-le-pow_right}
-use Rattle.std.proofs.Math.Seq.{drop-append_seam, drop-nil}
+use Rattle.std.proofs.Math.Seq.{drop-append_seam}
 use Rattle.disk_model.specs.Files.{byte, reading, u32_at, u64_at}
 use Rattle.disk_model.proofs.Laws.{length-reading, byte-reading}
 use Rattle.qc_layout.specs.declared.extension.Extension.{Extension}
@@ -15,12 +15,12 @@ use Rattle.qc_layout.specs.declared.header.Part.{Part}
 use Rattle.qc_layout.specs.declared.header.Part.TheVariants as parts
 use Rattle.qc_layout.specs.declared.header.Fields.{Fields}
 use Rattle.qc_layout.specs.declared.header.Header.{Header}
-use Rattle.qc_layout.specs.Header.{fields_of, number_fault, first_of, has_bit, is_disk, is_place}
-use Rattle.qc_layout.specs.Extensions.{list_end, IsEnd, AreExtensions, extension_rules, first_of_kind, count_of, kept_bytes, kept_length, tail_of, bitmaps_in, own_in, place_in, bitmaps_kind, own_kind, is_bad_bitmaps, is_bad_own, is_there}
+use Rattle.qc_layout.specs.Header.{fields_of, number_fault, first_of, has_bit, is_place}
+use Rattle.qc_layout.specs.Extensions.{list_end, IsEnd, AreExtensions, extension_rules, first_of_kind, count_of, kept_bytes, kept_length, tail_of, bitmaps_in, own_in, bitmaps_kind, own_kind, is_bad_bitmaps, is_bad_own, is_there}
 use Rattle.qc_layout.specs.Spelling.{Spells, words_bytes, number_words, tail_bytes, tail_length, kept_part, own_bytes, bitmaps_bytes, header_bytes, Fits, sector_of, joined, IsSmall, IsWritable, AreBitmaps, has_bitmaps, IsOwnOf}
 use Rattle.qc_layout.proofs.Standing.{Stands, stands_at, stands_as, stands_left, stands_right, inner_u32, zeros_u32}
 use Rattle.qc_layout.proofs.WrittenNumbers.{fields_written, length-words}
-use Rattle.qc_layout.proofs.Words.{no_tail_bytes, no_bitmaps_bytes, tail_words, header_parts}
+use Rattle.qc_layout.proofs.Words.{no_tail_bytes, tail_words, header_parts}
 use Rattle.qc_layout.proofs.RuleLaws.{ArePassed, are_passed, passed_in, none_fails, no_fault, or_false, false_or}
 use Rattle.qc_layout.proofs.Blocks.{as_extensions, blocks_listed, blocks_bytes, blocks_length, blocks_no_bitmaps, blocks_no_own, blocks_count_bitmaps, blocks_count_own, blocks_of, are_blocks, kept_joined, kept_long}
 use Rattle.qc_layout.proofs.Heads.{in_front, own_extension, own_says, own_found, own_no_bitmaps, own_count, own_count_bitmaps, own_kept, own_kept_length, bitmaps_extension, bitmaps_say, bitmaps_found, bitmaps_no_own, bitmaps_count, bitmaps_count_own, bitmaps_kept, bitmaps_kept_length, bitmaps_there}

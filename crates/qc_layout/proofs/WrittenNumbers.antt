@@ -1,7 +1,7 @@
 -- The numbers of a header, read again from where it was written.
-use Rattle.std.proofs.Common.{◌≡◌, inl, inr, ℕ, ◌+◌, ◌<◌, List, [], ◌∷◌, length, refl, sym, ap, ◌∙◌, arith, Bool}
+use Rattle.std.proofs.Common.{rules}
+use Rattle.std.proofs.Common.{◌≡◌, ℕ, ◌+◌, ◌<◌, List, [], ◌∷◌, length, refl, arith}
 use Rattle.std.specs.Prelude.{nat_lt, if◌then◌else◌}
-use Rattle.std.proofs.lemmas.Bool.{cases_lt, lt-ltb, le-ltb}
 use Rattle.disk_model.specs.Files.{byte, u32_at, u64_at}
 use Rattle.qc_layout.specs.declared.header.Header.{Header}
 use Rattle.qc_layout.specs.Header.{fields_of}
@@ -40,10 +40,7 @@ length-words (Eight n ∷ ws) = omega (arith, length-words ws)
 -- the compression type is there, or 0
 compression : (file : List ℕ) (h : Header) → (104 < h.fields.header_length → byte file 104 ≡ h.fields.compression_type) → h.fields.compression_type ≡ 0 →
     (if nat_lt 104 h.fields.header_length then byte file 104 else 0) ≡ h.fields.compression_type
-compression file h there none = elim (cases_lt 104 h.fields.header_length) [
-  | inl long ↦ ap (λ (b : Bool). if b then byte file 104 else 0) (lt-ltb _ _ long) ∙ there long
-  | inr short ↦ ap (λ (b : Bool). if b then byte file 104 else 0) (le-ltb _ _ short) ∙ sym none
-]
+compression file h there none = search rules
 
 -- all numbers of the file are those of the header
 pub fields_written : (file : List ℕ) (h : Header) → AreSmallWords (number_words h.fields) → Stands file 0 (words_bytes (number_words h.fields)) → (104 < h.fields.header_length → byte file 104 ≡ h.fields.compression_type) → h.fields.compression_type ≡ 0 → fields_of file ≡ h.fields
