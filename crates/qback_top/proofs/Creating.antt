@@ -2,7 +2,9 @@
 use Rattle.std.proofs.Common.{◌≡◌, inl, inr, ⊎_elim, ℕ, List, ◌++◌, take, IsTrue, IsSome, Option, Some, None, Result, Ok, Err, OnErr, refl, sym, ap, subst, ◌∙◌}
 use Rattle.disk_model.specs.World.{World, Runs, nothing, making, only_text, Holds, PrintsPart}
 use Rattle.disk_model.proofs.Laws.{Within, run_more, run_both, nothing_within, now_spared, given_on}
-use Rattle.backup_file.specs.Creating.{HasCreated, Begins, Refuses}
+use Rattle.file_device.specs.Names.{HasCreated}
+use Rattle.file_device.proofs.Laws.{holds_of}
+use Rattle.backup_file.specs.Creating.{Begins, Refuses}
 use Rattle.backup_file.specs.declared.create.CreateRefusal.TheVariants.{Exists, Failed}
 use Rattle.qback_top.specs.declared.words.Task.{Task}
 use Rattle.qback_top.specs.Words.{IsTask}
@@ -27,7 +29,7 @@ touched_none name run = inl (run_more (nothing_within only_text) run)
 pub touched_failed : {a b : World} (name : List ℕ) → Refuses name a b Failed → MakesAlone name a b
 touched_failed {a} {b} name refuses = ⊎_elim
     (λ (none : Runs nothing a b). touched_none name none)
-    (λ (some : Begins name a b). inr (some.0, some.1, run_more (making_within name some.0) some.2))
+    (λ (some : Begins name a b). inr (some.0, some.1.fresh, run_more (making_within name some.0) some.1.run))
     refuses.0
 
 -- a file was made, and then something was printed
@@ -37,7 +39,7 @@ touched_made name f made print = inr (f, made.fresh, run_both (making_within nam
 -- what a file holds goes on over prints
 holds_on : {f : ℕ} {S P : List ℕ → Type 0} {b c : World} → Runs only_text b c → Holds f S P b → Holds f S P c
 holds_on {f} {S} {P} {b} {c} print holds = record {
-  seen = λ told. subst S (sym (print.seen f (λ none. none))) (holds.seen (subst IsTrue print.tells told));
+  seen = λ told. subst S (sym (print.files f (λ none. none)).seen) (holds.seen (subst IsTrue print.goes.tells told));
   each = now_spared f P print (λ none. none) holds.each;
 }
 
@@ -60,10 +62,10 @@ module _ (task : Task) (name : List ℕ) (makes : Makes task name) (words : List
           (λ (none : Runs nothing a b). inl (looked_none none))
           (λ (some : Begins name a b). begun some.0 is (record {
             makes = makes;
-            fresh = some.1;
-            run = run_more (making_within name some.0) some.2;
-            printed = part_none (made_line name) a b ((some.2.text (λ none. none)).printed);
-            first = λ prints. inl ((some.2.text (λ none. none)).printed);
+            fresh = some.1.fresh;
+            run = run_more (making_within name some.0) some.1.run;
+            printed = part_none (made_line name) a b ((some.1.run.text (λ none. none)).printed);
+            first = λ prints. inl ((some.1.run.text (λ none. none)).printed);
           }))
           refuses.0
 
@@ -81,7 +83,7 @@ module _ (task : Task) (name : List ℕ) (makes : Makes task name) (words : List
       fresh = made.fresh;
       run = run_both (making_within name f) (text_within name f) made.run print;
       printed = λ prints. let p = part (prints_as prints) in (p.0, subst (λ (t : List ℕ). c.printed ≡ t ++ take p.0 (made_line name)) printed_as p.1);
-      first = λ prints. inr (holds_on print made.holds);
+      first = λ prints. inr (holds_on print (holds_of made.holds));
     })
 
     -- it was made and told
@@ -94,7 +96,7 @@ module _ (task : Task) (name : List ℕ) (makes : Makes task name) (words : List
         run = run_both (making_within name f) (text_within name f) made.run print;
         given = given_on print made.given;
         found = λ _. print.found name (λ none. none) ∙ made.found told;
-        holds = holds_on print made.holds;
+        holds = holds_on print (holds_of made.holds);
         printed = λ prints. said (prints_as prints) ∙ ap (λ (t : List ℕ). t ++ made_line name) printed_as;
       },
     )

@@ -1,20 +1,22 @@
 -- A run that came to its end as was due, and was reported, ends as is due.
 use Rattle.std.proofs.Common.{◌≡◌, inl, inr, ⊎_elim, ℕ, List, map, IsTrue, sym, subst}
 use Rattle.disk_model.specs.World.{World, Runs, IsNameless, only_text}
-use Rattle.disk_model.proofs.Laws.{Within, given_on, run_both, run_more, run_on, stay}
+use Rattle.disk_model.proofs.Laws.{Within, run_more, run_on, stay}
 use Rattle.qback_top.specs.declared.end.End.{End}
 use Rattle.qback_top.specs.declared.end.End.TheVariants as ends
 use Rattle.qback_top.specs.declared.stop.Stop.{Stop}
 use Rattle.qback_top.specs.declared.stop.Stop.TheVariants as stops
 use Rattle.qback_top.specs.declared.words.Task.{Task}
 use Rattle.qback_top.specs.declared.words.Task.TheVariants.{CreateSource, CreateTarget, Info, Replay}
-use Rattle.qback_top.specs.Endings.{NoForm, Missing, Exists, Refused, BadLine, Made, Told, Ran, looks, looks_and_says, works_on_name, creates, MakesAlone, Says, line_of, LooksAndTells}
+use Rattle.qback_top.specs.Endings.{NoForm, Missing, Exists, Refused, BadLine, Made, Told, Ran, looks, works_on_names, creates, MakesAlone, Says, line_of, LooksAndTells}
 use Rattle.qback_top.specs.Orders.{order_of}
 use Rattle.qback_top.specs.Replays.{Replayed}
 use Rattle.qback_top.specs.Creations.{Makes, Created}
 use Rattle.qback_top.specs.Ends.{Stopped, EndsAsDue, Touches}
 use Rattle.qback_top.specs.Words.{HaveNoForm, IsTask}
 use Rattle.qback_top.specs.Shown.{ShowsReplay, ShowsCreation, ShowsInfo, Shows, NeedsRise, Reports, TouchesBy, status_at}
+use Rattle.qback_top.proofs.Informing.{text_within_tells, tells_then_text}
+use Rattle.qback_top.proofs.Replaying.{names_later}
 use Rattle.qback_top.proofs.OneTask.{one_task}
 
 -- the words have no form
@@ -61,24 +63,15 @@ module _ (words : List (List ℕ)) (old mid new : World) (status : ℕ) where
 
 -- ---- what a task touches, and then a print
 
-text_within_name : (name : List ℕ) (w : World) → Within only_text (works_on_name name w)
-text_within_name name w = record { files = λ g none. absurd none; reads = λ g none. absurd none; names = λ other none. absurd none; text = λ is. is; wire = λ none. absurd none }
-
-text_within_looks : Within only_text looks_and_says
-text_within_looks = record { files = λ g none. absurd none; reads = λ g none. absurd none; names = λ other none. absurd none; text = λ is. is; wire = λ none. absurd none }
+text_within_names : (name other : List ℕ) (w : World) → Within only_text (works_on_names name other w)
+text_within_names name other w = record { files = λ g none. absurd none; reads = λ g none. absurd none; names = λ other none. absurd none; text = λ is. is; wire = λ none. absurd none }
 
 text_within_creates : (name : List ℕ) (f : ℕ) → Within only_text (creates name f)
 text_within_creates name f = record { files = λ g none. absurd none; reads = λ g none. absurd none; names = λ other none. absurd none; text = λ is. is; wire = λ none. absurd none }
 
--- work on a file of a name, and then a print
-name_then_text : (name : List ℕ) (a b c : World) → Runs (works_on_name name b) a b → Runs only_text b c → Runs (works_on_name name c) a c
-name_then_text name a b c work print = run_both (record {
-  files = λ g is. given_on print is;
-  reads = λ g is. is;
-  names = λ other none. absurd none;
-  text = λ is. is;
-  wire = λ none. absurd none;
-}) (text_within_name name c) work print
+-- work on files of names, and then a print
+names_then_text : (name other : List ℕ) (a b c : World) → Runs (works_on_names name other b) a b → Runs only_text b c → Runs (works_on_names name other c) a c
+names_then_text name other a b c work print = run_on (names_later name other work print) (run_more (text_within_names name other c) print)
 
 -- a file that was made alone, and then a print
 made_then_text : (name : List ℕ) (a b c : World) → MakesAlone name a b → Runs only_text b c → MakesAlone name a c
@@ -90,15 +83,15 @@ made_then_text name a b c made print = ⊎_elim
 pub touched_then_text : (task : Task) (a b c : World) → TouchesBy task a b → Runs only_text b c → TouchesBy task a c
 touched_then_text (CreateSource file size bits id) a b c touched print = made_then_text file a b c touched print
 touched_then_text (CreateTarget file size bits under) a b c touched print = made_then_text file a b c touched print
-touched_then_text (Info file) a b c touched print = run_on touched (run_more text_within_looks print)
-touched_then_text (Replay file script) a b c touched print = name_then_text file a b c touched print
+touched_then_text (Info file) a b c touched print = tells_then_text file a b c touched print
+touched_then_text (Replay file script) a b c touched print = names_then_text file script a b c touched print
 
 -- a print alone
 pub text_touches : (task : Task) (a b : World) → Runs only_text a b → TouchesBy task a b
 text_touches (CreateSource file size bits id) a b print = inl print
 text_touches (CreateTarget file size bits under) a b print = inl print
-text_touches (Info file) a b print = run_more text_within_looks print
-text_touches (Replay file script) a b print = run_more (text_within_name file b) print
+text_touches (Info file) a b print = run_more (text_within_tells file b) print
+text_touches (Replay file script) a b print = run_more (text_within_names file script b) print
 
 -- a task that makes a file touches that file alone
 makes_touches : (task : Task) (name : List ℕ) (a b : World) → Makes task name → TouchesBy task a b → MakesAlone name a b

@@ -23,7 +23,7 @@ module _ {a b : World} (look : Runs looks a b) where
   found_is name = look.found name (λ none. none)
 
   abbrev seen_is : (f : ℕ) → b.seen f ≡ a.seen f
-  seen_is f = look.seen f (λ none. none)
+  seen_is f = (look.files f (λ none. none)).seen
 
   there_before : (words : List (List ℕ)) (file script : List ℕ) (image text : ℕ) → AreThere words b file script image text → AreThere words a file script image text
   there_before words file script image text there = record { form = there.form; is_image = sym (found_is file) ∙ there.is_image; is_text = sym (found_is script) ∙ there.is_text }
@@ -73,12 +73,12 @@ module _ {a b : World} (look : Runs looks a b) where
   due_before words (Told text) due = absurd due
 
   part_before : (orders : List Order) (text : List ℕ) (f : ℕ) (e : World) → PrintsUntilClosed orders text f b e → PrintsUntilClosed orders text f a e
-  part_before orders text f e part told = let p = part (subst IsTrue (sym look.goes.prints) told) in (p.0, p.1 ∙ ap (λ (t : List ℕ). t ++ take p.0 text) (look.printed (λ none. none)), p.2)
+  part_before orders text f e part told = let p = part (subst IsTrue (sym look.goes.prints) told) in (p.0, p.1 ∙ ap (λ (t : List ℕ). t ++ take p.0 text) ((look.text (λ none. none)).printed), p.2)
 
   reached_before : {f k : ℕ} {from : List ℕ} {orders : List Order} (e : World) → Reached from orders k f b e → Reached from orders k f a e
   reached_before {f} {k} {from} {orders} e reached = record {
     disk = reached.disk;
-    printed = λ told. let p = reached.printed (subst IsTrue (sym look.goes.prints) told) in (p.0, p.1 ∙ ap (λ (t : List ℕ). t ++ take p.0 (printed_from from orders)) (look.printed (λ none. none)), p.2, p.3, p.4);
+    printed = λ told. let p = reached.printed (subst IsTrue (sym look.goes.prints) told) in (p.0, p.1 ∙ ap (λ (t : List ℕ). t ++ take p.0 (printed_from from orders)) ((look.text (λ none. none)).printed), p.2, p.3, p.4);
   }
 
   works_before : (f : ℕ) (e : World) → Runs (works_on f) b e → Runs (works_on f) a e

@@ -3,9 +3,9 @@ use Rattle.std.proofs.Common.{◌≡◌, ◌≢◌, ◌⊎◌, inl, inr, ⊎_eli
 use Rattle.std.proofs.lemmas.List.{take_min}
 use Rattle.std.specs.Prelude.{codes}
 use Rattle.disk_model.specs.Files.{reading}
-use Rattle.disk_model.specs.World.{World, Runs, reads_of, only_text, nothing, PrintsPart}
+use Rattle.disk_model.specs.World.{World, Runs, reads_of, only_text, nothing, IsGiven, PrintsPart}
 use Rattle.disk_model.proofs.Words.{reading_inside}
-use Rattle.disk_model.proofs.Moments.{Within, run_on, run_more}
+use Rattle.disk_model.proofs.Moments.{Within, nothing_within, given_on, run_on, run_more, run_both}
 use Rattle.qc_layout.specs.declared.header.Header.{Header}
 use Rattle.qc_layout.specs.declared.header.HeaderFault.{HeaderFault}
 use Rattle.qc_layout.specs.declared.header.Part.{Part}
@@ -19,7 +19,7 @@ use Rattle.qback_top.specs.declared.description.Description.TheVariants as descr
 use Rattle.qback_top.specs.Descriptions.{Describes, DescribesHeader}
 use Rattle.qback_top.specs.Infos.{InfoDue, IsToldAs, IsRefusedAs, fault_in, header_reason, record_reason}
 use Rattle.qback_top.specs.Words.{IsInfo}
-use Rattle.qback_top.specs.Endings.{Refused, Told, looks, looks_and_says, LooksAndTells}
+use Rattle.qback_top.specs.Endings.{Refused, Told, looks, tells_of, looks_and_says, LooksAndTells}
 use Rattle.qback_top.specs.Shown.{StopsInInfo}
 use Rattle.qback_top.proofs.Replaying.{looked, looked_none}
 use Rattle.qback_top.proofs.Saying.{part_after, said_after}
@@ -130,6 +130,29 @@ looks_more look = run_more looks_within look
 
 pub looks_say : {a c e : World} → Runs looks a c → Runs only_text c e → Runs looks_and_says a e
 looks_say look says = run_on (looks_more look) (run_more text_within says)
+
+-- a file of a name is looked up and read, and then something may be printed
+pub looked_tells : {a b c : World} (name : List ℕ) (f : ℕ) → Runs nothing a b → IsGiven f name b → Runs (reads_of f) b c → Runs (tells_of name c) a c
+looked_tells {a} {b} {c} name f find given read = run_both (nothing_within (tells_of name c)) (record {
+  files = λ g none. absurd none;
+  reads = λ g is. subst (λ (k : ℕ). IsGiven k name c) (sym is) (given_on read given);
+  names = λ other none. absurd none;
+  text = λ none. absurd none;
+  wire = λ none. absurd none;
+}) find read
+
+pub text_within_tells : (name : List ℕ) (w : World) → Within only_text (tells_of name w)
+text_within_tells name w = record { files = λ g none. absurd none; reads = λ g none. absurd none; names = λ other none. absurd none; text = λ is. is; wire = λ none. absurd none }
+
+-- and then one that prints
+pub tells_then_text : (name : List ℕ) (a b c : World) → Runs (tells_of name b) a b → Runs only_text b c → Runs (tells_of name c) a c
+tells_then_text name a b c work print = run_both (record {
+  files = λ g none. absurd none;
+  reads = λ g is. given_on print is;
+  names = λ other none. absurd none;
+  text = λ is. is;
+  wire = λ none. absurd none;
+}) (text_within_tells name c) work print
 
 pub look_both : {a b c : World} {f : ℕ} → Runs nothing a b → Runs (reads_of f) b c → Runs looks a c
 look_both find read = run_on (looked_none find) (looked read)

@@ -1,14 +1,14 @@
 -- From what the lines of a script did to what the run leaves.
-use Rattle.std.proofs.Common.{inr, refl, ℕ, ◌^◌, ◌≤◌, List, ◌++◌, length, IsTrue, Result, Ok, Err, OnErr, sym, ap, subst, ◌∙◌}
+use Rattle.std.proofs.Common.{inl, inr, ⊎_elim, refl, ℕ, ◌^◌, ◌≤◌, List, ◌++◌, length, IsTrue, Result, Ok, Err, OnErr, sym, ap, subst, ◌∙◌}
 use Rattle.std.specs.Prelude.{codes}
-use Rattle.disk_model.specs.World.{World, Runs, nothing, reads_of, file_and_text, IsGiven}
+use Rattle.disk_model.specs.World.{World, Parts, Runs, nothing, reads_of, file_and_text, IsGiven}
 use Rattle.disk_model.proofs.Moments.{Within, nothing_within, given_on, run_more, run_on}
 use Rattle.qc_layout.specs.FirstForm.{IsTaken}
 use Rattle.script_model.specs.Lines.{Line, IsScript}
 use Rattle.qback_top.specs.Orders.{Order, printed_from, disk_from}
 use Rattle.qback_top.specs.Lines.{RanLines, BegunLines, PrintsUntilClosed, Reached}
 use Rattle.qback_top.specs.Replays.{AreThere, ReplayDue, Replayed, ReplayedInPart}
-use Rattle.qback_top.specs.Endings.{Refused, Ran, looks, works_on, works_on_name}
+use Rattle.qback_top.specs.Endings.{Refused, Ran, looks, works_on, works_on_names}
 use Rattle.qback_top.specs.Shown.{StopsInReplay}
 use Rattle.qback_top.proofs.OrderLaws.{now-extended}
 
@@ -23,31 +23,59 @@ looks_within_work f = record { files = λ g none. absurd none; reads = λ g is. 
 file_within_work : (f : ℕ) → Within (file_and_text f) (works_on f)
 file_within_work f = record { files = λ g is. is; reads = λ g is. tt; names = λ name none. absurd none; text = λ is. is; wire = λ none. absurd none }
 
-looks_within_name : (name : List ℕ) (w : World) → Within looks (works_on_name name w)
-looks_within_name name w = record { files = λ g none. absurd none; reads = λ g is. is; names = λ other none. absurd none; text = λ none. absurd none; wire = λ none. absurd none }
-
 pub looked : {f : ℕ} {a b : World} → Runs (reads_of f) a b → Runs looks a b
 looked {f} run = run_more (reads_within_looks f) run
 
 pub looked_none : {a b : World} → Runs nothing a b → Runs looks a b
 looked_none run = run_more (nothing_within looks) run
 
-pub looked_at_name : {a b : World} (name : List ℕ) (w : World) → Runs looks a b → Runs (works_on_name name w) a b
-looked_at_name name w run = run_more (looks_within_name name w) run
+-- ---- files of names
 
--- work on the file of a number that was given for a name is work on a file of that name
-pub worked_on_name : {a c : World} (name : List ℕ) (f : ℕ) → IsGiven f name a → Runs (works_on f) a c → Runs (works_on_name name c) a c
-worked_on_name {a} {c} name f given run = run_more (record {
+-- reading the file of a number that was given for the second name
+pub other_read : {a c : World} (name other : List ℕ) (f : ℕ) → IsGiven f other a → Runs (reads_of f) a c → Runs (works_on_names name other c) a c
+other_read {a} {c} name other f given run = run_more (record {
+  files = λ g none. absurd none;
+  reads = λ g is. inr (subst (λ (k : ℕ). IsGiven k other c) (sym is) (given_on run given));
+  names = λ new none. absurd none;
+  text = λ none. absurd none;
+  wire = λ none. absurd none;
+}) run
+
+-- and work on that of one that was given for the first
+pub name_worked : {a c : World} (name other : List ℕ) (f : ℕ) → IsGiven f name a → Runs (file_and_text f) a c → Runs (works_on_names name other c) a c
+name_worked {a} {c} name other f given run = run_more (record {
   files = λ g is. subst (λ (k : ℕ). IsGiven k name c) (sym is) (given_on run given);
-  reads = λ g is. is;
-  names = λ other none. absurd none;
+  reads = λ g is. inl (subst (λ (k : ℕ). IsGiven k name c) (sym is) (given_on run given));
+  names = λ new none. absurd none;
   text = λ is. is;
   wire = λ none. absurd none;
 }) run
 
+pub name_read : {a c : World} (name other : List ℕ) (f : ℕ) → IsGiven f name a → Runs (reads_of f) a c → Runs (works_on_names name other c) a c
+name_read name other f given run = name_worked name other f given (run_more (record {
+  files = λ g none. absurd none;
+  reads = λ g is. is;
+  names = λ new none. absurd none;
+  text = λ none. absurd none;
+  wire = λ none. absurd none;
+}) run)
+
+-- numbers stay those of their names
+pub names_later : {parts : Parts} {a b c : World} (name other : List ℕ) → Runs (works_on_names name other b) a b → Runs parts b c → Runs (works_on_names name other c) a b
+names_later {parts} {a} {b} {c} name other work run = run_more (record {
+  files = λ g is. given_on run is;
+  reads = λ g is. ⊎_elim (λ (first : IsGiven g name b). inl (given_on run first)) (λ (second : IsGiven g other b). inr (given_on run second)) is;
+  names = λ new none. absurd none;
+  text = λ is. is;
+  wire = λ none. absurd none;
+}) work
+
+pub names_on : {a b c : World} (name other : List ℕ) → Runs (works_on_names name other b) a b → Runs (works_on_names name other c) b c → Runs (works_on_names name other c) a c
+names_on name other first second = run_on (names_later name other first second) second
+
 -- from a later start
-pub works_from : {a b c : World} (name : List ℕ) → Runs looks a b → Runs (works_on_name name c) b c → Runs (works_on_name name c) a c
-works_from {a} {b} {c} name look work = run_on (looked_at_name name c look) work
+pub works_from : {a b c : World} (name other : List ℕ) → Runs nothing a b → Runs (works_on_names name other c) b c → Runs (works_on_names name other c) a c
+works_from {a} {b} {c} name other look work = run_on (run_more (nothing_within (works_on_names name other c)) look) work
 
 -- ---- what was carried out
 

@@ -57,9 +57,13 @@ looks_and_says = record { files = λ g. ⊥; reads = λ g. Unit {0}; names = λ 
 abbrev pub works_on : ℕ → Parts
 works_on f = record { files = λ g. g ≡ f; reads = λ g. Unit {0}; names = λ name. ⊥; text = Unit {0}; wire = ⊥ }
 
--- and calls that print, or write a file whose number was given for this name
-abbrev pub works_on_name : List ℕ → World → Parts
-works_on_name name w = record { files = λ g. IsGiven g name w; reads = λ g. Unit {0}; names = λ other. ⊥; text = Unit {0}; wire = ⊥ }
+-- calls that print, or read a file whose number was given for this name
+abbrev pub tells_of : List ℕ → World → Parts
+tells_of name w = record { files = λ g. ⊥; reads = λ g. IsGiven g name w; names = λ other. ⊥; text = Unit {0}; wire = ⊥ }
+
+-- and calls that print, work on a file whose number was given for this name, or read one whose number was given for the other
+abbrev pub works_on_names : List ℕ → List ℕ → World → Parts
+works_on_names name other w = record { files = λ g. IsGiven g name w; reads = λ g. IsGiven g name w ⊎ IsGiven g other w; names = λ new. ⊥; text = Unit {0}; wire = ⊥ }
 
 -- calls that make a file of this name and number, write it, or print
 abbrev pub creates : List ℕ → ℕ → Parts

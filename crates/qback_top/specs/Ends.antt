@@ -3,7 +3,7 @@ use Rattle.std.specs.Prelude.{◌≡◌, ◌⊎◌, ℕ, List, map, codes}
 use Rattle.disk_model.specs.World.{World, Runs, only_text, Rose}
 use Rattle.qback_top.specs.declared.words.Task.{Task}
 use Rattle.qback_top.specs.Words.{IsTask, HaveNoForm, IsReplay, IsInfo}
-use Rattle.qback_top.specs.Endings.{Ending, NoForm, Made, Told, Ran, status_of, line_of, looks, looks_and_says, works_on_name, MakesAlone, Says, LooksAndSays, LooksAndTells}
+use Rattle.qback_top.specs.Endings.{Ending, NoForm, Made, Told, Ran, status_of, line_of, looks, tells_of, works_on_names, MakesAlone, Says, LooksAndSays, LooksAndTells}
 use Rattle.qback_top.specs.Orders.{order_of}
 use Rattle.qback_top.specs.Replays.{ReplayDue, Replayed, StopsReplaying}
 use Rattle.qback_top.specs.Creations.{Makes, MakeDue, Created, StopsCreating}
@@ -44,10 +44,10 @@ EndsAsDue words old new status =
     ⊎ ((status ≡ 3) × StopsAndSays words (codes "device\n") FaultsRose old new)
     ⊎ ((status ≡ 4) × StopsAndSays words (codes "memory\n") (λ a b. Unit {0}) old new)
 
--- Whatever a depot tells: without a form nothing is touched but the text, `info` only reads, `replay` touches no file but those given
--- for FILE, and a creation none but one that it makes.
+-- Whatever a depot tells: without a form nothing is touched but the text, `info` reads no file but those given for FILE, `replay` reads no file
+-- but those given for FILE and for SCRIPT and touches only the former, and a creation reads none and touches none but one that it makes.
 pub record Touches (words : List (List ℕ)) (old new : World) : Type 0 where
   pub text : HaveNoForm words → Runs only_text old new
-  pub replays : (file script : List ℕ) → IsReplay words file script → Runs (works_on_name file new) old new
-  pub tells : (file : List ℕ) → IsInfo words file → Runs looks_and_says old new
+  pub replays : (file script : List ℕ) → IsReplay words file script → Runs (works_on_names file script new) old new
+  pub tells : (file : List ℕ) → IsInfo words file → Runs (tells_of file new) old new
   pub makes : (task : Task) (name : List ℕ) → IsTask words task → Makes task name → MakesAlone name old new

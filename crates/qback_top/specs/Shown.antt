@@ -8,7 +8,7 @@ use Rattle.qback_top.specs.declared.end.End.TheVariants as ends
 use Rattle.qback_top.specs.declared.stop.Stop.TheVariants as stops
 use Rattle.qback_top.specs.declared.words.Task.{Task}
 use Rattle.qback_top.specs.declared.words.Task.TheVariants.{CreateSource, CreateTarget, Info, Replay}
-use Rattle.qback_top.specs.Endings.{NoForm, Missing, Exists, Refused, BadLine, Made, Told, Ran, Says, looks, looks_and_says, works_on_name, MakesAlone, line_of, LooksAndTells}
+use Rattle.qback_top.specs.Endings.{NoForm, Missing, Exists, Refused, BadLine, Made, Told, Ran, Says, looks, tells_of, works_on_names, MakesAlone, line_of, LooksAndTells}
 use Rattle.qback_top.specs.Replays.{ReplayDue, Replayed, StopsReplaying}
 use Rattle.qback_top.specs.Creations.{MakeDue, Created, StopsCreating}
 use Rattle.qback_top.specs.Infos.{InfoDue, StopsTelling}
@@ -54,8 +54,8 @@ Shows words old new end = ShowsReplay words old new end ⊎ ShowsCreation words 
 abbrev pub TouchesBy : Task → World → World → Type 0
 TouchesBy (CreateSource file size bits id) old new = MakesAlone file old new
 TouchesBy (CreateTarget file size bits under) old new = MakesAlone file old new
-TouchesBy (Info file) old new = Runs looks_and_says old new
-TouchesBy (Replay file script) old new = Runs (works_on_name file new) old new
+TouchesBy (Info file) old new = Runs (tells_of file new) old new
+TouchesBy (Replay file script) old new = Runs (works_on_names file script new) old new
 
 -- a fault is told only where the shared count rose
 abbrev pub NeedsRise : World → World → End → Type 0

@@ -5,7 +5,7 @@ ghost use Rattle.disk_model.specs.Files.{reading};
 ghost use Rattle.disk_model.specs.World.{World, Runs, reads_of};
 ghost use Rattle.qc_layout.specs.Laws.{start_of};
 ghost use Rattle.qback_top.specs.Words.{IsInfo};
-ghost use Rattle.qback_top.specs.Endings.{looks_and_says};
+ghost use Rattle.qback_top.specs.Endings.{tells_of};
 ghost use Rattle.qback_top.specs.Stops.{StopsFor};
 ghost use Rattle.qback_top.specs.Shown.{ShowsInfo, StopsInInfo, NeedsRise, status_at};
 
@@ -62,7 +62,7 @@ pub fn tell<'a, D: Depot + Console>(
         ShowsInfo words (D.world depot.old) (D.world depot.new) end) }
     ensures stops { OnErr result (IsTrue (D.world depot.old).tells → (words : List (List ℕ)) → IsInfo words file.now →
         StopsInInfo words (D.world depot.old) (D.world depot.new)) }
-    ensures touches { Runs looks_and_says (D.world depot.old) (D.world depot.new) }
+    ensures touches { Runs (tells_of file.now (D.world depot.new)) (D.world depot.old) (D.world depot.new) }
     ensures ended { IfOk result (NeedsRise (D.world depot.old) (D.world depot.new)) }
     ensures cause { StopsFor (D.world depot.old) (D.world depot.new) result }
 {

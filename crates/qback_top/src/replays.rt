@@ -4,7 +4,7 @@ ghost use Rattle.std.specs.Prelude.{◌≡◌, ◌≢◌, ◌↔◌, ◌+◌, �
 ghost use Rattle.disk_model.specs.Files.{reading};
 ghost use Rattle.disk_model.specs.World.{World, Runs, IsGiven, reads_of, PrintCause, PrintsPart, only_text};
 ghost use Rattle.qback_top.specs.Words.{IsReplay};
-ghost use Rattle.qback_top.specs.Endings.{works_on_name};
+ghost use Rattle.qback_top.specs.Endings.{works_on_names};
 ghost use Rattle.qback_top.specs.Replays.{AreThere};
 ghost use Rattle.qback_top.specs.Stops.{StopsFor};
 ghost use Rattle.qback_top.specs.Shown.{ShowsReplay, StopsInReplay, NeedsRise, status_at};
@@ -29,7 +29,7 @@ pub fn replay_files<'a, D: Depot + Console>(
         ShowsReplay words (D.world depot.old) (D.world depot.new) end) }
     ensures stops { OnErr result (IsTrue (D.world depot.old).tells → (words : List (List ℕ)) → IsReplay words file.now script.now →
         StopsInReplay words (D.world depot.old) (D.world depot.new)) }
-    ensures file { Runs (works_on_name file.now (D.world depot.new)) (D.world depot.old) (D.world depot.new) }
+    ensures file { Runs (works_on_names file.now script.now (D.world depot.new)) (D.world depot.old) (D.world depot.new) }
     ensures ended { IfOk result (NeedsRise (D.world depot.old) (D.world depot.new)) }
     ensures cause { StopsFor (D.world depot.old) (D.world depot.new) result }
 {
@@ -77,13 +77,13 @@ fn replay_found<'a, D: Depot + Console>(
     depot: &mut D,
 ) -> Result<End<'a>, Stop>
     requires image { IsGiven image.0 file.now (D.world depot.old) }
-    requires text { text.0 < (D.world depot.old).given }
+    requires text { IsGiven text.0 script.now (D.world depot.old) }
     ensures form { IfOk result (λ end. status_at end ≢ 1) }
     ensures shows { IfOk result (λ end. IsTrue (D.world depot.old).tells → (words : List (List ℕ)) → AreThere words (D.world depot.old) file.now script.now image.0 text.0 →
         ShowsReplay words (D.world depot.old) (D.world depot.new) end) }
     ensures stops { OnErr result (IsTrue (D.world depot.old).tells → (words : List (List ℕ)) → AreThere words (D.world depot.old) file.now script.now image.0 text.0 →
         StopsInReplay words (D.world depot.old) (D.world depot.new)) }
-    ensures file { Runs (works_on_name file.now (D.world depot.new)) (D.world depot.old) (D.world depot.new) }
+    ensures file { Runs (works_on_names file.now script.now (D.world depot.new)) (D.world depot.old) (D.world depot.new) }
     ensures ended { IfOk result (NeedsRise (D.world depot.old) (D.world depot.new)) }
     ensures cause { StopsFor (D.world depot.old) (D.world depot.new) result }
 {

@@ -2,6 +2,7 @@ use Rattle.std.proofs.Common.{◌≡◌, ◌++◌, [], List, ℕ, sym, ap, subst
 use Rattle.std.proofs.lemmas.List.{append-nil}
 use Rattle.std.specs.Prelude.{codes}
 use Rattle.disk_model.specs.World.{PrintsPart}
+use Rattle.disk_model.proofs.Laws.{run_on}
 use Rattle.qback_top.specs.Endings.{Refused, line_of}
 use Rattle.qback_top.proofs.Saying.{part_first, part_next}
 use Rattle.qback_top.proofs.end.say_reason.Goals as goal
@@ -31,3 +32,6 @@ returns-clause-part g c =
     (part_next (front c.args.name.now) (back c.args.reason.now) a b d c.say_parts.ensures.run.goes.prints
     (λ told. c.in_ok-say_parts.ensures.printed told ∙ ap (λ (t : List ℕ). a.printed ++ (codes "file " ++ t ++ codes " ")) c.as_bytes.ensures.value)
     (subst (λ (t : List ℕ). PrintsPart (t ++ codes "\n" ++ []) b d) c.as_bytes-2.ensures.value c.say_parts-2.ensures.part))
+
+pub returns-clause-run : goal.returns-clause-run
+returns-clause-run g c = run_on c.say_parts.ensures.run c.say_parts-2.ensures.run

@@ -80,3 +80,9 @@ returns-in_err-write_at-clause-disk g c = kept g (goal.at.returns-in_err-write_a
 
 pub returns-clause-disk : goal.returns-clause-disk
 returns-clause-disk g c = kept g (goal.at.returns-clause-disk g c).After-write_at
+
+pub returns-clause-run : goal.returns-clause-run
+returns-clause-run g c =
+    let same = ap (λ (i : Image). i.file.0) c.in_ok-place.ensures.image in
+    run_on (run_on (file_read c.table.ensures.run) (file_write c.grow.ensures.torn.run))
+    (subst (λ (k : ℕ). Runs (only_file k) (g.D.Outside.world c.grow.new.depot) (g.D.Outside.world c.write_at.new.self)) same (file_write c.write_at.ensures.call.run))

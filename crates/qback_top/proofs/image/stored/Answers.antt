@@ -115,3 +115,17 @@ returns-in_err-write_at-clause-disk g c = kept g (goal.at.returns-in_err-write_a
 
 pub returns-clause-disk : goal.returns-clause-disk
 returns-clause-disk g c = kept g (goal.at.returns-clause-disk g c).After-write_at
+
+pub returns-in_err-place-clause-run : goal.returns-in_err-place-clause-run
+returns-in_err-place-clause-run g c =
+    let same = ap (λ (f : FileNo). f.0) c.in_ok-table.ensures.image.file in
+    run_on (run_on (file_read c.host.ensures.run) c.made_table.ensures.run)
+    (subst (λ (k : ℕ). Runs (only_file k) (g.D.Outside.world c.made_table.new.depot) (g.D.Outside.world c.grow.new.depot)) same (file_write c.grow.ensures.torn.run))
+
+pub returns-clause-run : goal.returns-clause-run
+returns-clause-run g c =
+    let same = ap (λ (f : FileNo). f.0) c.in_ok-table.ensures.image.file in
+    let same_2 = ap (λ (i : Image). i.file.0) c.in_ok-place.ensures.image ∙ same in
+    run_on (run_on (run_on (file_read c.host.ensures.run) c.made_table.ensures.run)
+    (subst (λ (k : ℕ). Runs (only_file k) (g.D.Outside.world c.made_table.new.depot) (g.D.Outside.world c.grow.new.depot)) same (file_write c.grow.ensures.torn.run)))
+    (subst (λ (k : ℕ). Runs (only_file k) (g.D.Outside.world c.grow.new.depot) (g.D.Outside.world c.write_at.new.self)) same_2 (file_write c.write_at.ensures.call.run))

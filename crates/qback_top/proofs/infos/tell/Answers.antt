@@ -1,13 +1,13 @@
 use Rattle.std.proofs.Common.{◌≡◌, ℕ, List, ◌++◌, IsTrue, option_map, sym, ap, subst, ◌∙◌, rules}
 use Rattle.disk_model.specs.declared.depot.FileNo.{FileNo}
-use Rattle.disk_model.specs.World.{PrintsPart}
+use Rattle.disk_model.specs.World.{Runs, PrintsPart}
 use Rattle.qback_top.specs.declared.description.Description.{Description}
 use Rattle.qback_top.specs.Descriptions.{Describes}
 use Rattle.qback_top.specs.Infos.{InfoDue}
-use Rattle.qback_top.specs.Endings.{Told}
+use Rattle.qback_top.specs.Endings.{Told, tells_of}
 use Rattle.qback_top.specs.Stops.{Needs}
 use Rattle.qback_top.specs.Words.{IsInfo}
-use Rattle.qback_top.proofs.Informing.{DueBy, described, look_both, tells_all, tells_part, info_err, told_err}
+use Rattle.qback_top.proofs.Informing.{DueBy, described, look_both, looked_tells, tells_then_text, tells_all, tells_part, info_err, told_err}
 use Rattle.qback_top.proofs.infos.tell.Given.{Over}
 use Rattle.qback_top.proofs.infos.tell.Goals.{After-describe}
 use Rattle.qback_top.proofs.infos.tell.Goals as goal
@@ -61,3 +61,16 @@ returns-clause-shows g c = λ told words form.
       tells_all c.in-Text.text.items (look_both c.find.ensures.run c.read_start.ensures.run) c.print.ensures.run
           (subst (λ (l : List ℕ). IsTrue mid.prints → e.printed ≡ mid.printed ++ l) c.deref-in-Text.ensures.value c.in_ok-print-in-Text.ensures.printed),
     )
+
+-- FILE alone was read
+reads : (g : Over) (c : After-describe g) → Runs (tells_of c.args.file.now (g.D.Outside.world c.read_start.new.depot)) (g.D.Outside.world c.args.depot.now) (g.D.Outside.world c.read_start.new.depot)
+reads g c = looked_tells c.args.file.now c.in-Some.number.0 c.find.ensures.run (rw c.in-Some.is at c.in_ok-number.ensures.given) c.read_start.ensures.run
+
+pub returns-in-Refused-clause-touches : goal.returns-in-Refused-clause-touches
+returns-in-Refused-clause-touches g c = reads g (goal.at.returns-in-Refused-clause-touches g c).After-describe
+
+pub returns-in_err-print-in-Text-clause-touches : goal.returns-in_err-print-in-Text-clause-touches
+returns-in_err-print-in-Text-clause-touches g c = tells_then_text c.args.file.now _ _ _ (reads g (goal.at.returns-in_err-print-in-Text-clause-touches g c).After-describe) c.print.ensures.run
+
+pub returns-clause-touches : goal.returns-clause-touches
+returns-clause-touches g c = tells_then_text c.args.file.now _ _ _ (reads g (goal.at.returns-clause-touches g c).After-describe) c.print.ensures.run

@@ -23,12 +23,12 @@ tried g c told =
     let end = c.in_ok-end.ensures.size told in
     let sized = c.size.ensures.run in
     let ran = c.read_at.ensures.run in
-    let read = c.in_ok-read_at.ensures.bytes (sized.tells ∙ told) ∙ ap (λ (l : List ℕ). reading l 0 104) (sized.seen c.args.file.0 (λ x. x)) in
-    let seen = ap (λ (i : Image). (g.D.Outside.world c.read_at.new.self).seen i.file.0) c.in-Some.ensures.1 ∙ ran.seen c.args.file.0 (λ x. x) ∙ sized.seen c.args.file.0 (λ x. x) in
+    let read = c.in_ok-read_at.ensures.bytes (sized.goes.tells ∙ told) ∙ ap (λ (l : List ℕ). reading l 0 104) ((sized.files c.args.file.0 (λ x. x)).seen) in
+    let seen = ap (λ (i : Image). (g.D.Outside.world c.read_at.new.self).seen i.file.0) c.in-Some.ensures.1 ∙ (ran.files c.args.file.0 (λ x. x)).seen ∙ (sized.files c.args.file.0 (λ x. x)).seen in
     record {
       is = described image ((g.D.Outside.world c.args.depot.now).seen c.args.file.0) c.read_at.new.out c.args.file c.in_ok-end.end read end c.in-Some.ensures.1;
       head = subst (λ (n : ℕ). HeadFits (head_of ((g.D.Outside.world c.args.depot.now).seen c.args.file.0)) n) end (subst (λ (h : List ℕ). HeadFits h c.in_ok-end.end) read c.in-Some.ensures.0);
-      tables = subst (λ (l : List ℕ). IsTrue c.in_ok-tables_fit.field-0 ↔ TablesFit l image.size image.l1 image.end) seen (c.in_ok-tables_fit.ensures.fit (ran.tells ∙ sized.tells ∙ told));
+      tables = subst (λ (l : List ℕ). IsTrue c.in_ok-tables_fit.field-0 ↔ TablesFit l image.size image.l1 image.end) seen (c.in_ok-tables_fit.ensures.fit (ran.goes.tells ∙ sized.goes.tells ∙ told));
     }
 
 pub returns-then-branch-clause-taken : goal.returns-then-branch-clause-taken

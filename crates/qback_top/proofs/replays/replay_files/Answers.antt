@@ -25,4 +25,4 @@ returns-clause-stops g c =
     (g.D.Outside.world c.replay_found.new.depot) c.replay_found.result c.replay_found.ensures.stops
 
 pub returns-clause-file : goal.returns-clause-file
-returns-clause-file g c = works_from c.args.file.now (looked_none (run_on c.find.ensures.run c.find-2.ensures.run)) c.replay_found.ensures.file
+returns-clause-file g c = works_from c.args.file.now c.args.script.now (run_on c.find.ensures.run c.find-2.ensures.run) c.replay_found.ensures.file
