@@ -3,7 +3,11 @@
 
 ghost use Rattle.std.specs.Prelude.{◌≡◌, ◌⊎◌, ◌≤◌, IfOk};
 
+mod files;
+mod locks;
+mod opening;
 mod real;
+mod table;
 
 use real::RealDepot;
 use std::alloc::{AllocError, Global};

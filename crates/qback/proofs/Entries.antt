@@ -1,10 +1,11 @@
 -- A count of an entry that rises.
-use Rattle.std.proofs.Common.{◌≡◌, ◌≢◌, ℕ, zero, suc, ◌<◌, ◌≤◌, List, [], ◌∷◌, length, map, get_or, set, refl, sym, ◌∙◌, ap, arith, string_bytes, get_or-set_other}
+use Rattle.std.proofs.Common.{◌≡◌, ◌≢◌, ℕ, zero, suc, ◌<◌, ◌≤◌, List, [], ◌∷◌, length, map, get_or, set, refl, sym, ◌∙◌, ap, subst, arith, string_bytes, get_or-set_other}
 use Rattle.std.proofs.lemmas.List.{map-set, length-set}
 use Rattle.std.proofs.Math.Seq.{map-set_same}
-use Rattle.disk_model.specs.World.{Runs, reads_of, writes_of, IsGiven, Rose}
-use Rattle.qback.specs.declared.real.Opened.{Opened}
-use Rattle.qback.specs.Real.{real}
+use Rattle.disk_model.specs.World.{World, Parts, Runs, reads_of, writes_of, IsGiven, Rose}
+use Rattle.disk_model.proofs.Laws.{stay}
+use Rattle.qback.specs.declared.table.Opened.{Opened}
+use Rattle.qback.specs.Real.{told}
 
 -- the entry keeps this field
 kept : {Y : Type 0} (field : Opened → Y) (table : List Opened) (i : ℕ) (e new : Opened) → e ≡ get_or table i e → field new ≡ field e → map field (set table i new) ≡ map field table
@@ -38,7 +39,7 @@ equal_no_less m n same = omega (arith, same)
 
 module _ (table : List Opened) (i : ℕ) (e new : Opened) (is : e ≡ get_or table i e) (faults more prints : ℕ) (most : faults ≤ more) (name : string_bytes new.name ≡ string_bytes e.name) where
   -- the count of failed reads of an entry rises
-  pub reads_rise : new.write_faults ≡ e.write_faults → e.read_faults ≤ new.read_faults → Runs (reads_of i) (real table faults prints) (real (set table i new) more prints)
+  pub reads_rise : new.write_faults ≡ e.write_faults → e.read_faults ≤ new.read_faults → Runs (reads_of i) (told table faults prints) (told (set table i new) more prints)
   reads_rise same up = record {
     later = omega arith;
     kept = λ k f le. refl;
@@ -63,7 +64,7 @@ module _ (table : List Opened) (i : ℕ) (e new : Opened) (is : e ≡ get_or tab
   }
 
   -- the count of failed writes of an entry rises
-  pub writes_rise : new.read_faults ≡ e.read_faults → e.write_faults ≤ new.write_faults → Runs (writes_of i) (real table faults prints) (real (set table i new) more prints)
+  pub writes_rise : new.read_faults ≡ e.read_faults → e.write_faults ≤ new.write_faults → Runs (writes_of i) (told table faults prints) (told (set table i new) more prints)
   writes_rise same up = record {
     later = omega arith;
     kept = λ k f le. refl;
@@ -87,6 +88,21 @@ module _ (table : List Opened) (i : ℕ) (e new : Opened) (is : e ≡ get_or tab
     wire = λ apart. refl;
   }
 
+-- an entry whose name and counts stay tells the same
+module _ (table : List Opened) (i : ℕ) (e new : Opened) (is : e ≡ get_or table i e) (faults prints : ℕ) (name : string_bytes new.name ≡ string_bytes e.name) where
+  told_same : new.read_faults ≡ e.read_faults → new.write_faults ≡ e.write_faults → told (set table i new) faults prints ≡ told table faults prints
+  told_same reads writes = rw (length-set table i new, kept (λ o. string_bytes o.name) table i e new is name, kept (λ o. o.read_faults) table i e new is reads, kept (λ o. o.write_faults) table i e new is writes) refl
+
+  pub runs_same : (parts : Parts) → new.read_faults ≡ e.read_faults → new.write_faults ≡ e.write_faults → Runs parts (told table faults prints) (told (set table i new) faults prints)
+  runs_same parts reads writes = subst (λ (w : World). Runs parts (told table faults prints) w) (sym (told_same reads writes)) (stay parts (told table faults prints))
+
+  -- a count of it rises from what it was
+  pub rose_from : (field : Opened → ℕ) (after : ℕ) → field new ≡ field e → Rose (get_or (map field (set table i new)) i 0) after → Rose (get_or (map field table) i 0) after
+  rose_from field after same rose = subst (λ (xs : List ℕ). Rose (get_or xs i 0) after) (kept field table i e new is same) rose
+
+  pub runs_from : (parts : Parts) (after : World) → new.read_faults ≡ e.read_faults → new.write_faults ≡ e.write_faults → Runs parts (told (set table i new) faults prints) after → Runs parts (told table faults prints) after
+  runs_from parts after reads writes run = subst (λ (w : World). Runs parts w after) (told_same reads writes) run
+
 -- the count of the entry rose
 pub count_rose : (field : Opened → ℕ) (table : List Opened) (i : ℕ) (e new : Opened) → i < length table → e ≡ get_or table i e → Rose (field e) (field new) → Rose (get_or (map field table) i 0) (get_or (map field (set table i new)) i 0)
 count_rose field table i e new below is rose = omega (arith, rose, count_was field table i e below is, count_is field table i new below)
@@ -99,7 +115,7 @@ entry_name (x ∷ xs) (suc i) e below is = entry_name xs i e (omega (arith, belo
 
 -- an entry of this name was found
 pub found_at : (table items : List Opened) (i number : ℕ) (e : Opened) (text name : List ℕ) (faults prints : ℕ) → items ≡ table → i < length items → e ≡ get_or items i e → number ≡ i → text ≡ string_bytes e.name → text ≡ name
-    → IsGiven number name (real table faults prints)
+    → IsGiven number name (told table faults prints)
 found_at table items i number e text name faults prints same below is at bytes named = record {
   below = omega (arith, below, at, ap length same);
   named = ap (λ k. get_or (map (λ o. string_bytes o.name) table) k []) at ∙ ap (λ xs. get_or (map (λ o. string_bytes o.name) xs) i []) (sym same) ∙ entry_name items i e below is ∙ sym bytes ∙ named;
