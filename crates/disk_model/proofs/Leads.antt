@@ -11,14 +11,14 @@ pub write_leads : {f place : ℕ} {bytes : List ℕ} {a b : World} (S P R T Q : 
 write_leads {f} {place} {bytes} {a} {b} S P R T Q sound sound_b call before after tears = record {
   since = λ holds. since_step a b f R call.steps (λ c left. before c (holds.each c left)) (λ c left. after c (each holds c left));
   after = λ holds. record {
-    seen = λ told. let told_a : IsTrue a.tells = subst IsTrue call.run.tells told in (tears (holds.seen told_a) (call.torn told_a)).0;
+    seen = λ told. let told_a : IsTrue a.tells = subst IsTrue call.run.goes.tells told in (tears (holds.seen told_a) (call.torn told_a)).0;
     each = each holds;
   };
 }
   where
     each : Holds f S P a → EachNow b f Q
     each holds c left =
-        let told_a : IsTrue a.tells = subst IsTrue call.run.tells (told_by b f c sound_b left) in
+        let told_a : IsTrue a.tells = subst IsTrue call.run.goes.tells (told_by b f c sound_b left) in
         now_mixed place bytes a b f P Q sound sound_b call.may holds.each (tears (holds.seen told_a) (call.torn told_a)).1 c left
 
 -- a write within a sector: nothing, or all of it, in reads and crashes alike
@@ -30,7 +30,7 @@ sector_leads {f} {place} {bytes} {a} {b} S P R T Q k sound sound_b call low high
   since = λ holds. since_step a b f R call.steps (λ c left. before c (holds.each c left)) (λ c left. after c (each holds c left));
   after = λ holds. record {
     seen = λ told.
-        let told_a : IsTrue a.tells = subst IsTrue call.run.tells told in
+        let told_a : IsTrue a.tells = subst IsTrue call.run.goes.tells told in
         let is = holds.seen told_a in
         ⊎_elim
         (λ (same : b.seen f ≡ a.seen f). subst T (sym same) (none same is).0)
@@ -42,7 +42,7 @@ sector_leads {f} {place} {bytes} {a} {b} S P R T Q k sound sound_b call low high
   where
     each : Holds f S P a → EachNow b f Q
     each holds c left =
-        let told_a : IsTrue a.tells = subst IsTrue call.run.tells (told_by b f c sound_b left) in
+        let told_a : IsTrue a.tells = subst IsTrue call.run.goes.tells (told_by b f c sound_b left) in
         ⊎_elim
         (λ (was : (b.seen f ≡ a.seen f) × IsOutcome (versions a f) c). (none was.0 (holds.seen told_a)).1 c (holds.each c was.1))
         (λ (was : (b.seen f ≡ overlay (a.seen f) place bytes) × WasOr place bytes (versions a f) c).
@@ -55,7 +55,7 @@ pub sync_leads : {f : ℕ} {a b : World} (S P R : List ℕ → Type 0) → IsSou
 sync_leads {f} {a} {b} S P R sound call before = record {
   since = λ holds. since_step a b f R (steps_within a b f call.steps) (λ c left. before c (holds.each c left)) (λ c left. before c (now_kept a b f P sound call.may holds.each c left));
   after = λ holds. record {
-    seen = λ told. subst S (sym call.seen) (holds.seen (subst IsTrue call.run.tells told));
+    seen = λ told. subst S (sym call.seen) (holds.seen (subst IsTrue call.run.goes.tells told));
     each = now_kept a b f P sound call.may holds.each;
   };
 }
@@ -64,11 +64,11 @@ sync_leads {f} {a} {b} S P R sound call before = record {
 pub synced_leads : {f : ℕ} {a b : World} (S P R : List ℕ → Type 0) → IsSound a → IsSound b → Syncs f a b → HasSynced f a b → ((c : List ℕ) → P c → R c) → ((c : List ℕ) → S c → R c) → Leads f S P R S S a b
 synced_leads {f} {a} {b} S P R sound sound_b call done before after = record {
   since = λ holds. since_step a b f R (steps_within a b f call.steps) (λ c left. before c (holds.each c left)) (λ c left. after c (each holds c left));
-  after = λ holds. record { seen = λ told. subst S (sym call.seen) (holds.seen (subst IsTrue call.run.tells told)); each = each holds };
+  after = λ holds. record { seen = λ told. subst S (sym call.seen) (holds.seen (subst IsTrue call.run.goes.tells told)); each = each holds };
 }
   where
     each : Holds f S P a → EachNow b f S
-    each holds c left = subst S (sym (now_synced sound done c left)) (holds.seen (subst IsTrue call.run.tells (told_by b f c sound_b left)))
+    each holds c left = subst S (sym (now_synced sound done c left)) (holds.seen (subst IsTrue call.run.goes.tells (told_by b f c sound_b left)))
 
 -- after it each crash leaves the very file that reads give
 pub synced_exact : {f : ℕ} {a b : World} → IsSound a → Syncs f a b → HasSynced f a b → EachNow b f (λ c. c ≡ b.seen f)
@@ -77,15 +77,15 @@ synced_exact sound call done c left = now_synced sound done c left ∙ sym call.
 -- so what holds of what reads give holds of both
 pub synced_holds : {f : ℕ} {a b : World} (S : List ℕ → Type 0) → IsSound a → IsSound b → Syncs f a b → HasSynced f a b → (IsTrue a.tells → S (a.seen f)) → Holds f S S b
 synced_holds {f} {a} {b} S sound sound_b call done reads = record {
-  seen = λ told. subst S (sym call.seen) (reads (subst IsTrue call.run.tells told));
-  each = λ c left. subst S (sym (now_synced sound done c left)) (reads (subst IsTrue call.run.tells (told_by b f c sound_b left)));
+  seen = λ told. subst S (sym call.seen) (reads (subst IsTrue call.run.goes.tells told));
+  each = λ c left. subst S (sym (now_synced sound done c left)) (reads (subst IsTrue call.run.goes.tells (told_by b f c sound_b left)));
 }
 
 -- a run that spares the file
 pub spare_leads : {parts : Parts} {a b : World} (f : ℕ) (S P : List ℕ → Type 0) → Runs parts a b → (parts.files f → ⊥) → Leads f S P P S P a b
 spare_leads {parts} {a} {b} f S P run none = record {
   since = λ holds. since_spared f P run none holds.each;
-  after = λ holds. record { seen = λ told. subst S (sym (run.seen f none)) (holds.seen (subst IsTrue run.tells told)); each = now_spared f P run none holds.each };
+  after = λ holds. record { seen = λ told. subst S (sym ((run.files f none).seen)) (holds.seen (subst IsTrue run.goes.tells told)); each = now_spared f P run none holds.each };
 }
 
 pub lead_on : {parts others : Parts} {f : ℕ} {S P R T Q U V : List ℕ → Type 0} {a b c : World} → Runs parts a b → Runs others b c → Leads f S P R T Q a b → Leads f T Q R U V b c → Leads f S P R U V a c
@@ -106,20 +106,3 @@ lead_from {f} {S} {P} {R} {T} {Q} {a} {b} U V reads most leads = record { since 
   where
     from : Holds f U V a → Holds f S P a
     from holds = record { seen = λ told. reads _ (holds.seen told); each = λ c left. most c (holds.each c left) }
-
--- two things that are kept track of apart
-pub lead_both : {f : ℕ} {a b : World} (S P R T Q U V W X Y : List ℕ → Type 0) → Leads f S P R T Q a b → Leads f U V W X Y a b
-    → Leads f (λ c. S c × U c) (λ c. P c × V c) (λ c. R c × W c) (λ c. T c × X c) (λ c. Q c × Y c) a b
-lead_both {f} {a} {b} S P R T Q U V W X Y first second = record {
-  since = λ holds k low high c left. (first.since (one holds) k low high c left, second.since (other holds) k low high c left);
-  after = λ holds. record {
-    seen = λ told. ((first.after (one holds)).seen told, (second.after (other holds)).seen told);
-    each = λ c left. ((first.after (one holds)).each c left, (second.after (other holds)).each c left);
-  };
-}
-  where
-    one : Holds f (λ c. S c × U c) (λ c. P c × V c) a → Holds f S P a
-    one holds = record { seen = λ told. (holds.seen told).0; each = λ c left. (holds.each c left).0 }
-
-    other : Holds f (λ c. S c × U c) (λ c. P c × V c) a → Holds f U V a
-    other holds = record { seen = λ told. (holds.seen told).1; each = λ c left. (holds.each c left).1 }

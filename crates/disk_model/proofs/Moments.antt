@@ -1,61 +1,76 @@
 -- How a run of a depot's calls goes on.
-use Rattle.std.proofs.Common.{◌≡◌, ◌⊎◌, inl, inr, ⊎_elim, ℕ, ◌+◌, ◌^◌, ◌<◌, ◌≤◌, List, [], ◌∷◌, length, ◌*◌, IsTrue, Result, refl, sym, ◌∙◌, subst, ap, arith}
-use Rattle.std.proofs.lemmas.Result.{on_err_weaker}
+use Rattle.std.proofs.Common.{◌≡◌, ◌⊎◌, inl, inr, ⊎_elim, ℕ, ◌+◌, ◌<◌, ◌≤◌, List, [], ◌∷◌, length, ◌*◌, IsTrue, refl, sym, ◌∙◌, subst, ap, arith}
 use Rattle.std.proofs.lemmas.Bool.{cases_lt}
 use Rattle.disk_model.specs.Files.{IsOutcome, IsGrown, IsTorn, overlay, after_write, MayWrite, after_sync, MaySync, IsLatest, IsTold}
-use Rattle.disk_model.specs.World.{World, versions, Parts, nothing, reads_of, writes_of, only_file, only_text, file_and_text, making, Runs, IsGiven, StepsWithin, StepsBefore, Writes, HasWritten, Syncs, HasSynced, Leaves, EachSince, EachNow, EachSinceSync, Rose, FindCause, ReadCause, WriteCause, PrintCause, IsSound}
+use Rattle.disk_model.specs.World.{World, versions, Parts, nothing, reads_of, writes_of, only_file, making, Faults, Counts, GoesOn, SameFile, Runs, IsSpared, IsGiven, StepsWithin, StepsBefore, Writes, Syncs, HasSynced, Leaves, EachSince, EachNow, EachSinceSync, Rose, FileFailed, IsSound}
 use Rattle.disk_model.proofs.Outcomes.{one_sector_write, before_write, whole_torn, untorn, settled, is_outcome, IsMixed}
 
 -- ---- what goes on
 
 pub stay : (parts : Parts) (w : World) → Runs parts w w
 stay parts w = record {
-  later = omega arith;
-  kept = λ k f le. refl;
-  tells = refl;
-  outcomes = refl;
-  prints = refl;
-  given = omega arith;
-  named = λ f below. refl;
-  faults = omega arith;
-  read_faults = λ f. omega arith;
-  write_faults = λ f. omega arith;
-  print_faults = omega arith;
-  send_faults = omega arith;
-  seen = λ g none. refl;
-  moments = λ g k none low high. let same : k ≡ w.now = omega arith in ap (λ (m : ℕ). w.past m g) same;
-  unwritten = λ g none. refl;
+  goes = record {
+    later = omega arith;
+    kept = λ k f le. refl;
+    lasts = λ k f low high some. let same : k ≡ w.now = omega arith in subst (λ (m : ℕ). 0 < length (w.past m f)) (sym same) some;
+    tells = refl;
+    outcomes = refl;
+    prints = refl;
+    given = omega arith;
+    named = λ f below. refl;
+    counts = record { shared = omega arith; reads = λ f. omega arith; writes = λ f. omega arith; prints = omega arith };
+    send_faults = omega arith;
+  };
+  files = λ g none. record { seen = refl; moments = λ k low high. let same : k ≡ w.now = omega arith in ap (λ (m : ℕ). w.past m g) same; unwritten = refl };
   unread = λ g none. refl;
   found = λ name none. refl;
-  printed = λ none. refl;
-  unprinted = λ none. refl;
+  text = λ none. record { printed = refl; unprinted = refl };
   wire = λ none. refl;
 }
 
-pub run_on : {parts : Parts} {a b c : World} → Runs parts a b → Runs parts b c → Runs parts a c
-run_on {parts} {a} {b} {c} first second = record {
+pub counts_on : {a b c : Faults} → Counts a b → Counts b c → Counts a c
+counts_on first second = record {
+  shared = omega (arith, first.shared, second.shared);
+  reads = λ f. omega (arith, first.reads f, second.reads f);
+  writes = λ f. omega (arith, first.writes f, second.writes f);
+  prints = omega (arith, first.prints, second.prints);
+}
+
+pub go_on : {a b c : World} → GoesOn a b → GoesOn b c → GoesOn a c
+go_on {a} {b} {c} first second = record {
   later = omega (arith, first.later, second.later);
   kept = λ k f le. second.kept k f (omega (arith, le, first.later)) ∙ first.kept k f le;
+  lasts = λ k f low high some. elim (cases_lt b.now k) [
+    | inl after ↦ second.lasts k f (omega arith) high (first.lasts b.now f first.later (omega arith) some)
+    | inr before ↦ subst (λ (vs : List (List ℕ)). 0 < length vs) (sym (second.kept k f before)) (first.lasts k f low before some)
+  ];
   tells = second.tells ∙ first.tells;
   outcomes = second.outcomes ∙ first.outcomes;
   prints = second.prints ∙ first.prints;
   given = omega (arith, first.given, second.given);
   named = λ f below. second.named f (omega (arith, below, first.given)) ∙ first.named f below;
-  faults = omega (arith, first.faults, second.faults);
-  read_faults = λ f. omega (arith, first.read_faults f, second.read_faults f);
-  write_faults = λ f. omega (arith, first.write_faults f, second.write_faults f);
-  print_faults = omega (arith, first.print_faults, second.print_faults);
+  counts = counts_on first.counts second.counts;
   send_faults = omega (arith, first.send_faults, second.send_faults);
-  seen = λ g none. second.seen g none ∙ first.seen g none;
-  moments = λ g k none from to. elim (cases_lt b.now k) [
-    | inl after ↦ second.moments g k none (omega arith) to ∙ first.moments g b.now none first.later (omega arith)
-    | inr before ↦ second.kept k g before ∙ first.moments g k none from before
+}
+
+-- a file that two runs spare
+pub same_on : {g : ℕ} {a b c : World} → GoesOn a b → GoesOn b c → SameFile g a b → SameFile g b c → SameFile g a c
+same_on {g} {a} {b} {c} run on first second = record {
+  seen = second.seen ∙ first.seen;
+  moments = λ k low high. elim (cases_lt b.now k) [
+    | inl after ↦ second.moments k (omega arith) high ∙ first.moments b.now run.later (omega arith)
+    | inr before ↦ on.kept k g before ∙ first.moments k low before
   ];
-  unwritten = λ g none. second.unwritten g none ∙ first.unwritten g none;
+  unwritten = second.unwritten ∙ first.unwritten;
+}
+
+pub run_on : {parts : Parts} {a b c : World} → Runs parts a b → Runs parts b c → Runs parts a c
+run_on first second = record {
+  goes = go_on first.goes second.goes;
+  files = λ g none. same_on first.goes second.goes (first.files g none) (second.files g none);
   unread = λ g none. second.unread g none ∙ first.unread g none;
   found = λ name none. second.found name none ∙ first.found name none;
-  printed = λ none. second.printed none ∙ first.printed none;
-  unprinted = λ none. second.unprinted none ∙ first.unprinted none;
+  text = λ none. record { printed = (second.text none).printed ∙ (first.text none).printed; unprinted = (second.text none).unprinted ∙ (first.text none).unprinted };
   wire = λ none. second.wire none ∙ first.wire none;
 }
 
@@ -69,26 +84,12 @@ pub record Within (parts more : Parts) : Type 0 where
 
 -- what touches few parts touches no more than these
 pub run_more : {parts more : Parts} {a b : World} → Within parts more → Runs parts a b → Runs more a b
-run_more {parts} {more} {a} {b} within run = record {
-  later = run.later;
-  kept = run.kept;
-  tells = run.tells;
-  outcomes = run.outcomes;
-  prints = run.prints;
-  given = run.given;
-  named = run.named;
-  faults = run.faults;
-  read_faults = run.read_faults;
-  write_faults = run.write_faults;
-  print_faults = run.print_faults;
-  send_faults = run.send_faults;
-  seen = λ g none. run.seen g (λ f. none (within.files g f));
-  moments = λ g k none from to. run.moments g k (λ f. none (within.files g f)) from to;
-  unwritten = λ g none. run.unwritten g (λ f. none (within.files g f));
+run_more within run = record {
+  goes = run.goes;
+  files = λ g none. run.files g (λ f. none (within.files g f));
   unread = λ g none. run.unread g (λ f. none (within.reads g f));
   found = λ name none. run.found name (λ f. none (within.names name f));
-  printed = λ none. run.printed (λ f. none (within.text f));
-  unprinted = λ none. run.unprinted (λ f. none (within.text f));
+  text = λ none. run.text (λ f. none (within.text f));
   wire = λ none. run.wire (λ f. none (within.wire f));
 }
 
@@ -101,33 +102,9 @@ reads_within_file f = record { files = λ g none. absurd none; reads = λ g is. 
 pub writes_within_file : (f : ℕ) → Within (writes_of f) (only_file f)
 writes_within_file f = record { files = λ g is. is; reads = λ g none. absurd none; names = λ name none. absurd none; text = λ none. absurd none; wire = λ none. absurd none }
 
-pub file_within_both : (f : ℕ) → Within (only_file f) (file_and_text f)
-file_within_both f = record { files = λ g is. is; reads = λ g is. is; names = λ name none. absurd none; text = λ none. absurd none; wire = λ none. absurd none }
-
-pub text_within_both : (f : ℕ) → Within only_text (file_and_text f)
-text_within_both f = record { files = λ g none. absurd none; reads = λ g none. absurd none; names = λ name none. absurd none; text = λ is. is; wire = λ none. absurd none }
-
-pub reads_within_both : (f : ℕ) → Within (reads_of f) (file_and_text f)
-reads_within_both f = record { files = λ g none. absurd none; reads = λ g is. is; names = λ name none. absurd none; text = λ none. absurd none; wire = λ none. absurd none }
-
-pub writes_within_both : (f : ℕ) → Within (writes_of f) (file_and_text f)
-writes_within_both f = record { files = λ g is. is; reads = λ g none. absurd none; names = λ name none. absurd none; text = λ none. absurd none; wire = λ none. absurd none }
-
 -- a file that is made is written
 pub writes_within_making : (name : List ℕ) (f : ℕ) → Within (writes_of f) (making name f)
 writes_within_making name f = record { files = λ g is. is; reads = λ g none. absurd none; names = λ other none. absurd none; text = λ none. absurd none; wire = λ none. absurd none }
-
-pub within_same : (parts : Parts) → Within parts parts
-within_same parts = record { files = λ g is. is; reads = λ g is. is; names = λ name is. is; text = λ is. is; wire = λ is. is }
-
-pub within_on : {few parts more : Parts} → Within few parts → Within parts more → Within few more
-within_on first second = record {
-  files = λ g is. second.files g (first.files g is);
-  reads = λ g is. second.reads g (first.reads g is);
-  names = λ name is. second.names name (first.names name is);
-  text = λ is. second.text (first.text is);
-  wire = λ is. second.wire (first.wire is);
-}
 
 -- one run after the other, of other parts, within those that hold both
 pub run_both : {parts others more : Parts} {a b c : World} → Within parts more → Within others more → Runs parts a b → Runs others b c → Runs more a c
@@ -137,17 +114,28 @@ run_both first second run on = run_on (run_more first run) (run_more second on)
 
 -- a number that was given stays so
 pub below_on : {parts : Parts} {a b : World} (f : ℕ) → Runs parts a b → f < a.given → f < b.given
-below_on f run below = omega (arith, run.given)
+below_on f run below = omega (arith, run.goes.given)
 
 -- and stays that of its name
 pub given_on : {parts : Parts} {a b : World} {f : ℕ} {name : List ℕ} → Runs parts a b → IsGiven f name a → IsGiven f name b
-given_on {parts} {a} {b} {f} run given = record { below = below_on f run given.below; named = run.named f given.below ∙ given.named }
+given_on {parts} {a} {b} {f} run given = record { below = below_on f run given.below; named = run.goes.named f given.below ∙ given.named }
 
 -- ---- files that a run spares
 
 -- a file that is none of those keeps its versions
 pub spared : {parts : Parts} {a b : World} (g : ℕ) → Runs parts a b → (parts.files g → ⊥) → versions b g ≡ versions a g
-spared {parts} {a} {b} g run none = run.moments g b.now none run.later (omega arith)
+spared {parts} {a} {b} g run none = (run.files g none).moments b.now run.goes.later (omega arith)
+
+pub spares : {parts : Parts} {a b : World} (g : ℕ) → Runs parts a b → (parts.files g → ⊥) → IsSpared a b g
+spares g run none = record {
+  later = run.goes.later;
+  tells = run.goes.tells;
+  outcomes = run.goes.outcomes;
+  given = run.goes.given;
+  named = run.goes.named;
+  seen = (run.files g none).seen;
+  versions = spared g run none;
+}
 
 -- ---- each crash since a moment
 
@@ -164,7 +152,7 @@ now_since d from f P le each c left = each d.now le (omega arith) c left
 pub since_on : {parts : Parts} {a b : World} (from f : ℕ) (P : List ℕ → Type 0) → Runs parts a b → EachSince a from f P → EachSince b a.now f P → EachSince b from f P
 since_on {parts} {a} {b} from f P run first second k low high c left = elim (cases_lt a.now k) [
   | inl after ↦ second k (omega arith) high c left
-  | inr before ↦ first k low before c (subst (λ (vs : List (List ℕ)). IsOutcome vs c) (run.kept k f before) left)
+  | inr before ↦ first k low before c (subst (λ (vs : List (List ℕ)). IsOutcome vs c) (run.goes.kept k f before) left)
 ]
 
 -- over a call on the file
@@ -185,15 +173,11 @@ steps_within a b f steps k low high = inl (steps k low high)
 
 -- over calls that spare it
 pub since_spared : {parts : Parts} {a b : World} (f : ℕ) (P : List ℕ → Type 0) → Runs parts a b → (parts.files f → ⊥) → EachNow a f P → EachSince b a.now f P
-since_spared {parts} {a} {b} f P run none before k low high c left = before c (subst (λ (vs : List (List ℕ)). IsOutcome vs c) (run.moments f k none low high) left)
+since_spared {parts} {a} {b} f P run none before k low high c left = before c (subst (λ (vs : List (List ℕ)). IsOutcome vs c) ((run.files f none).moments k low high) left)
 
 -- what each crash leaves since a moment goes on over a run that spares the file
 pub since_over : {parts : Parts} {a b : World} (from f : ℕ) (P : List ℕ → Type 0) → Runs parts a b → (parts.files f → ⊥) → from ≤ a.now → EachSince a from f P → EachSince b from f P
 since_over {parts} {a} from f P run none le each = since_on from f P run each (since_spared f P run none (now_since a from f P le each))
-
--- from a later moment on
-pub since_later : (w : World) (from later f : ℕ) (P : List ℕ → Type 0) → from ≤ later → EachSince w from f P → EachSince w later f P
-since_later w from later f P le each k low high c left = each k (omega arith) high c left
 
 -- what follows from it
 pub since_more : (w : World) (from f : ℕ) (P Q : List ℕ → Type 0) → ((c : List ℕ) → P c → Q c) → EachSince w from f P → EachSince w from f Q
@@ -201,13 +185,6 @@ since_more w from f P Q more each k low high c left = more c (each k low high c 
 
 pub now_more : (w : World) (f : ℕ) (P Q : List ℕ → Type 0) → ((c : List ℕ) → P c → Q c) → EachNow w f P → EachNow w f Q
 now_more w f P Q more each c left = more c (each c left)
-
--- both
-pub since_both : (w : World) (from f : ℕ) (P Q : List ℕ → Type 0) → EachSince w from f P → EachSince w from f Q → EachSince w from f (λ c. P c × Q c)
-since_both w from f P Q first second k low high c left = (first k low high c left, second k low high c left)
-
-pub now_both : (w : World) (f : ℕ) (P Q : List ℕ → Type 0) → EachNow w f P → EachNow w f Q → EachNow w f (λ c. P c × Q c)
-now_both w f P Q first second c left = (first c left, second c left)
 
 -- ---- what a call leaves of its file
 
@@ -283,15 +260,7 @@ sector_exact {f} {place} {bytes} {a} {b} k sound sound_b call low high long c le
         ))
         (one_sector_write place bytes v torn.0 k torn.1 (long v (is_outcome v vs grown)) low high)
 
--- where an outcome is told, so are the files
-pub told_by : (d : World) (f : ℕ) (c : List ℕ) → IsSound d → IsOutcome (versions d f) c → IsTrue d.tells
-told_by d f c sound left = by_cases (versions d f) (sound.told d.now f) left
-  where
-    by_cases : (vs : List (List ℕ)) → IsTold d.tells vs → IsOutcome vs c → IsTrue d.tells
-    by_cases [] told left = absurd (left.sectors 0)
-    by_cases (v ∷ vs) told left = told
-
--- at any moment
+-- where an outcome is told, so are the files, at any moment
 pub told_at : (d : World) (k f : ℕ) (c : List ℕ) → IsSound d → IsOutcome (d.past k f) c → IsTrue d.tells
 told_at d k f c sound left = by_cases (d.past k f) (sound.told k f) left
   where
@@ -299,13 +268,9 @@ told_at d k f c sound left = by_cases (d.past k f) (sound.told k f) left
     by_cases [] told left = absurd (left.sectors 0)
     by_cases (v ∷ vs) told left = told
 
--- what a read gives is an outcome
-pub seen_of : (d : World) (f : ℕ) (c : List ℕ) (P : List ℕ → Type 0) → IsSound d → IsOutcome (versions d f) c → EachNow d f P → P (d.seen f)
-seen_of d f c P sound left each = by_cases (versions d f) (sound.latest f) (sound.grown d.now f) left each
-  where
-    by_cases : (vs : List (List ℕ)) → IsLatest (d.seen f) vs → IsGrown vs → IsOutcome vs c → ((e : List ℕ) → IsOutcome vs e → P e) → P (d.seen f)
-    by_cases [] told grown left each = absurd (left.sectors 0)
-    by_cases (v ∷ vs) told grown left each = subst P (sym told) (each v (is_outcome v vs grown))
+-- now too
+pub told_by : (d : World) (f : ℕ) (c : List ℕ) → IsSound d → IsOutcome (versions d f) c → IsTrue d.tells
+told_by d f c sound left = told_at d d.now f c sound left
 
 -- after a write that succeeded too
 pub wrote : (place : ℕ) (bytes : List ℕ) (vs ws : List (List ℕ)) → ws ≡ after_write place bytes vs → MayWrite place bytes vs ws
@@ -334,19 +299,6 @@ now_kept a b f P sound may each c left = by_cases (versions a f) (versions b f) 
 pub now_spared : {parts : Parts} {a b : World} (f : ℕ) (P : List ℕ → Type 0) → Runs parts a b → (parts.files f → ⊥) → EachNow a f P → EachNow b f P
 now_spared f P run none each c left = each c (subst (λ (vs : List (List ℕ)). IsOutcome vs c) (spared f run none) left)
 
--- ---- calls by what they leave
-
-pub write_leaves : {f place : ℕ} {bytes : List ℕ} {a b : World} (P R Q : List ℕ → Type 0) → IsSound a → Writes f place bytes a b
-    → ((c : List ℕ) → P c → R c) → ((c : List ℕ) → Q c → R c) → ((old new : List ℕ) → P old → IsTorn place bytes old new → Q new) → Leaves f P R Q a b
-write_leaves {f} {place} {bytes} {a} {b} P R Q sound call before after tears = record {
-  since = λ each. since_step a b f R call.steps (λ c left. before c (each c left)) (λ c left. after c (now_write place bytes a b f P Q sound call.may each tears c left));
-  after = λ each. now_write place bytes a b f P Q sound call.may each tears;
-}
-
--- a write that keeps what each crash leaves
-pub write_keeps : {f place : ℕ} {bytes : List ℕ} {a b : World} (P : List ℕ → Type 0) → IsSound a → Writes f place bytes a b → ((old new : List ℕ) → P old → IsTorn place bytes old new → P new) → Leaves f P P P a b
-write_keeps P sound call tears = write_leaves P P P sound call (λ c has. has) (λ c has. has) tears
-
 -- a write within a sector that lies in each of the files
 pub sector_leaves : {f place : ℕ} {bytes : List ℕ} {a b : World} (P R Q : List ℕ → Type 0) (k : ℕ) → IsSound a → Writes f place bytes a b → 512 * k ≤ place → place + length bytes ≤ 512 * k + 512
     → ((c : List ℕ) → P c → R c) → ((c : List ℕ) → Q c → R c) → ((old : List ℕ) → P old → (place + length bytes ≤ length old) × Q old × Q (overlay old place bytes)) → Leaves f P R Q a b
@@ -361,27 +313,12 @@ sync_keeps {f} {a} {b} P sound call = record {
   after = λ each. now_kept a b f P sound call.may each;
 }
 
--- a run that spares the file
-pub spare_keeps : {parts : Parts} {a b : World} (f : ℕ) (P : List ℕ → Type 0) → Runs parts a b → (parts.files f → ⊥) → Leaves f P P P a b
-spare_keeps f P run none = record { since = λ each. since_spared f P run none each; after = λ each. now_spared f P run none each }
-
--- one after the other
-pub leave_on : {parts others : Parts} {f : ℕ} {P R Q S : List ℕ → Type 0} {a b c : World} → Runs parts a b → Runs others b c → Leaves f P R Q a b → Leaves f Q R S b c → Leaves f P R S a c
-leave_on {parts} {others} {f} {P} {R} {Q} {S} {a} {b} {c} run on first second = record {
-  since = λ each. since_on a.now f R on (first.since each) (second.since (first.after each));
-  after = λ each. second.after (first.after each);
-}
-
--- from what is known at the start
-pub leave_from : {f : ℕ} {O P R Q : List ℕ → Type 0} {a b : World} → Leaves f P R Q a b → (EachNow a f O → EachNow a f P) → Leaves f O R Q a b
-leave_from leaves known = record { since = λ each. leaves.since (known each); after = λ each. leaves.after (known each) }
-
 -- ---- from a sync on
 
 pub sync_failed : {f : ℕ} {a b : World} (P : List ℕ → Type 0) → Syncs f a b → versions b f ≡ versions a f → EachSinceSync a b f P
 sync_failed {f} {a} {b} P call same = record {
   moment = b.now + 1;
-  from = omega (arith, call.run.later);
+  from = omega (arith, call.run.goes.later);
   to = omega arith;
   before = λ k low high to. elim (cases_lt k b.now) [
     | inl inside ↦ call.steps k low inside
@@ -393,7 +330,7 @@ sync_failed {f} {a} {b} P call same = record {
 pub sync_done : {f : ℕ} {a b : World} (P : List ℕ → Type 0) → Syncs f a b → EachNow b f P → EachSinceSync a b f P
 sync_done {f} {a} {b} P call each = record {
   moment = b.now;
-  from = call.run.later;
+  from = call.run.goes.later;
   to = omega arith;
   before = λ k low high to. call.steps k low high;
   since = since_now b f P each;
@@ -403,53 +340,25 @@ pub sync_on : {parts : Parts} {a b d : World} (f : ℕ) (P : List ℕ → Type 0
 sync_on {parts} {a} {b} {d} f P run first second = record {
   moment = first.moment;
   from = first.from;
-  to = omega (arith, first.to, run.later);
-  before = λ k low high to. run.kept k f (omega (arith, first.to)) ∙ first.before k low high (omega (arith, first.to));
+  to = omega (arith, first.to, run.goes.later);
+  before = λ k low high to. run.goes.kept k f (omega (arith, first.to)) ∙ first.before k low high (omega (arith, first.to));
   since = λ k low high c left. elim (cases_lt b.now k) [
     | inl after ↦ second k (omega arith) high c left
-    | inr before ↦ first.since k low before c (subst (λ (vs : List (List ℕ)). IsOutcome vs c) (run.kept k f before) left)
+    | inr before ↦ first.since k low before c (subst (λ (vs : List (List ℕ)). IsOutcome vs c) (run.goes.kept k f before) left)
   ];
 }
-
--- over a run that spares the file, at the end
-pub sync_spared : {parts others : Parts} {a b d : World} (f : ℕ) (P : List ℕ → Type 0) → Runs parts a b → Runs others b d → (others.files f → ⊥) → EachSinceSync a b f P → EachSinceSync a d f P
-sync_spared {parts} {others} {a} {b} {d} f P run on none first = elim (cases_lt b.now first.moment) [
-  | inr since ↦ sync_on f P on first (since_spared f P on none (first.since b.now since (omega arith)))
-  | inl not_yet ↦
-      let same : versions b f ≡ versions a f = first.before b.now run.later not_yet (omega arith) in
-      record {
-        moment = d.now + 1;
-        from = omega (arith, run.later, on.later);
-        to = omega arith;
-        before = λ k low high to. elim (cases_lt b.now k) [
-          | inl after ↦ on.moments f k none (omega arith) to ∙ same
-          | inr before ↦ on.kept k f before ∙ first.before k low (omega arith) before
-        ];
-        since = λ k low high c left. absurd (omega arith);
-      }
-]
 
 -- at the start
 pub spared_sync : {parts others : Parts} {a b d : World} (f : ℕ) (P : List ℕ → Type 0) → Runs parts a b → Runs others b d → (parts.files f → ⊥) → EachSinceSync b d f P → EachSinceSync a d f P
 spared_sync {parts} {others} {a} {b} {d} f P run on none later = record {
   moment = later.moment;
-  from = omega (arith, run.later, later.from);
+  from = omega (arith, run.goes.later, later.from);
   to = later.to;
   before = λ k low high to. elim (cases_lt b.now k) [
     | inl after ↦ later.before k (omega arith) high to ∙ spared f run none
-    | inr before ↦ on.kept k f before ∙ run.moments f k none low before
+    | inr before ↦ on.goes.kept k f before ∙ (run.files f none).moments k low before
   ];
   since = later.since;
-}
-
--- and throughout
-pub spared_all : {parts : Parts} {a b : World} (f : ℕ) (P : List ℕ → Type 0) → Runs parts a b → (parts.files f → ⊥) → EachSinceSync a b f P
-spared_all {parts} {a} {b} f P run none = record {
-  moment = b.now + 1;
-  from = omega (arith, run.later);
-  to = omega arith;
-  before = λ k low high to. run.moments f k none low to;
-  since = λ k low high c left. absurd (omega arith);
 }
 
 -- what follows from it
@@ -469,44 +378,21 @@ since_sync {a} {b} {f} P Q before each k low high c left = elim (cases_lt k each
   | inr since ↦ inr (each.since k since high c left)
 ]
 
--- where an outcome is told after a write that succeeded, reads give what was written
-pub seen_written : {f place : ℕ} {bytes : List ℕ} {a b : World} → Runs (writes_of f) a b → IsSound b → HasWritten f place bytes a b → (c : List ℕ) → IsOutcome (versions b f) c → b.seen f ≡ overlay (a.seen f) place bytes
-seen_written {f} {place} {bytes} {a} {b} run sound done c left = done.seen (subst IsTrue run.tells (told_by b f c sound left))
-
 -- ---- counts
 
 -- a count that rose has risen later too, and from earlier on
 pub rose_more : (a b c d : ℕ) → a ≤ b → Rose b c → c ≤ d → Rose a d
 rose_more a b c d low rose high = omega arith
 
-pub rose_before : (a b c : ℕ) → Rose a b → b ≤ c → Rose a c
-rose_before a b c rose high = omega arith
-
 pub rose_after : (a b c : ℕ) → a ≤ b → Rose b c → Rose a c
 rose_after a b c low rose = omega arith
 
--- one that stands where it stood, short of its end, didn't rise
-pub not_rose : (a : ℕ) → a + 1 < 2 ^ 64 → Rose a a → ⊥
-not_rose a short rose = omega arith
-
--- why a call failed holds over the run before it
-pub find_cause_after : {parts : Parts} {a b : World} (c : World) {T E : Type 0} (result : Result T E) → Runs parts a b → FindCause b c result → FindCause a c result
-find_cause_after {parts} {a} {b} c result run cause = on_err_weaker result (λ (rose : Rose b.faults c.faults). rose_after a.faults b.faults c.faults run.faults rose) cause
-
-pub read_cause_after : {parts : Parts} {a b : World} (c : World) (f : ℕ) {T E : Type 0} (result : Result T E) → Runs parts a b → ReadCause b c f result → ReadCause a c f result
-read_cause_after {parts} {a} {b} c f result run cause =
-    on_err_weaker result
-    (λ (rose : Rose b.faults c.faults × Rose (b.read_faults f) (c.read_faults f)). (rose_after a.faults b.faults c.faults run.faults rose.0, rose_after (a.read_faults f) (b.read_faults f) (c.read_faults f) (run.read_faults f) rose.1))
-    cause
-
-pub write_cause_after : {parts : Parts} {a b : World} (c : World) (f : ℕ) {T E : Type 0} (result : Result T E) → Runs parts a b → WriteCause b c f result → WriteCause a c f result
-write_cause_after {parts} {a} {b} c f result run cause =
-    on_err_weaker result
-    (λ (rose : Rose b.faults c.faults × Rose (b.write_faults f) (c.write_faults f)). (rose_after a.faults b.faults c.faults run.faults rose.0, rose_after (a.write_faults f) (b.write_faults f) (c.write_faults f) (run.write_faults f) rose.1))
-    cause
-
-pub print_cause_after : {parts : Parts} {a b : World} (c : World) {T E : Type 0} (result : Result T E) → Runs parts a b → PrintCause b c result → PrintCause a c result
-print_cause_after {parts} {a} {b} c result run cause =
-    on_err_weaker result
-    (λ (rose : Rose b.faults c.faults × Rose b.print_faults c.print_faults). (rose_after a.faults b.faults c.faults run.faults rose.0, rose_after a.print_faults b.print_faults c.print_faults run.print_faults rose.1))
-    cause
+-- so does that a call on a file failed
+pub file_failed_after : {parts : Parts} {f : ℕ} {a b c : World} → Runs parts a b → FileFailed f b c → FileFailed f a c
+file_failed_after {parts} {f} {a} {b} {c} run failed = record {
+  shared = rose_after a.faults.shared b.faults.shared c.faults.shared run.goes.counts.shared failed.shared;
+  own = ⊎_elim
+      (λ (read : Rose (b.faults.reads f) (c.faults.reads f)). inl (rose_after (a.faults.reads f) (b.faults.reads f) (c.faults.reads f) (run.goes.counts.reads f) read))
+      (λ (write : Rose (b.faults.writes f) (c.faults.writes f)). inr (rose_after (a.faults.writes f) (b.faults.writes f) (c.faults.writes f) (run.goes.counts.writes f) write))
+      failed.own;
+}

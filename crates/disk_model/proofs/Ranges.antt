@@ -1,15 +1,12 @@
 -- What a range of a file reads in what a crash leaves.
-use Rattle.std.proofs.Common.{max, ◌≡◌, ◌⊎◌, inl, inr, ⊎_elim, ℕ, ◌<◌, ◌/◌, ◌%◌, ◌+◌, ◌*◌, ◌≤◌, List, [], ◌∷◌, length, refl, sym, ◌∙◌, ap, subst, IsTrue, ◌^◌, arith}
+use Rattle.std.proofs.Common.{◌≡◌, ◌⊎◌, inl, inr, ⊎_elim, ℕ, ◌<◌, ◌/◌, ◌%◌, ◌+◌, ◌*◌, ◌≤◌, List, [], ◌∷◌, length, refl, sym, ◌∙◌, ap, IsTrue, arith}
 use Rattle.std.proofs.lemmas.Bool.{cases_lt}
-use Rattle.std.specs.Int.{from_be_bytes, to_be_bytes, w16, w32, w64}
-use Rattle.std.proofs.lemmas.Nat.{from_be_bytes-to_be_bytes_2, from_be_bytes-to_be_bytes_4, from_be_bytes-to_be_bytes_8}
-use Rattle.disk_model.specs.Files.{byte, reading, overlay, u16_at, u32_at, u64_at, SomeVersion, EachVersion, AgreesAt, IsOutcome, IsTorn, IsLatest, synced, after_sync, MayWrite, MaySync}
-use Rattle.disk_model.specs.World.{World, versions, IsSound, Writes, HasWritten, Leaves, EachNow, Leads}
-use Rattle.disk_model.proofs.Bytes.{length-overlay, length-overlay_none, length-overlay_inside, length-reading, byte-reading, byte_past, is_reading}
+use Rattle.std.specs.Int.{Width, byte_len}
+use Rattle.disk_model.specs.Files.{byte, reading, number_at, SomeVersion, EachVersion, AgreesAt, IsOutcome, IsTorn, synced}
+use Rattle.disk_model.specs.World.{World, HasWritten}
+use Rattle.disk_model.proofs.Bytes.{length-overlay_inside, byte_past}
 use Rattle.disk_model.proofs.Outcomes.{IsMixed, IsVersion, each_version, steady}
-use Rattle.disk_model.proofs.Moments.{write_leaves, write_keeps}
-use Rattle.disk_model.proofs.Leads.{write_leads}
-use Rattle.disk_model.proofs.Words.{reading_same, reading_either, reading-torn, reading-overlay_same, u16_as, u32_as, u64_as, u16_read, u32_read, u64_read, u16-torn, u32-torn, u64-torn}
+use Rattle.disk_model.proofs.Words.{reading_same, reading-overlay_same, number_as, in_sector}
 
 -- ---- in some version
 
@@ -36,23 +33,6 @@ reading_of_version vs c k at n left low high inside =
     (λ v agrees. reading_same c v at n (λ i from to. agrees i (omega arith) (omega arith) (omega arith)))
     (left.sectors k)
 
--- a number within a sector is in each outcome as in some version
-pub u16_of_version : (vs : List (List ℕ)) (c : List ℕ) (k at : ℕ) → IsOutcome vs c → 512 * k ≤ at → at + 2 ≤ 512 * k + 512 → at + 2 ≤ length c → SomeVersion (λ v. u16_at c at ≡ u16_at v at) vs
-u16_of_version vs c k at left low high inside =
-    some_more (λ v. reading c at 2 ≡ reading v at 2) (λ v. u16_at c at ≡ u16_at v at) vs (λ v same. u16_as c v at at same) (reading_of_version vs c k at 2 left low high inside)
-
-pub u32_of_version : (vs : List (List ℕ)) (c : List ℕ) (k at : ℕ) → IsOutcome vs c → 512 * k ≤ at → at + 4 ≤ 512 * k + 512 → at + 4 ≤ length c → SomeVersion (λ v. u32_at c at ≡ u32_at v at) vs
-u32_of_version vs c k at left low high inside =
-    some_more (λ v. reading c at 4 ≡ reading v at 4) (λ v. u32_at c at ≡ u32_at v at) vs (λ v same. u32_as c v at at same) (reading_of_version vs c k at 4 left low high inside)
-
-pub u64_of_version : (vs : List (List ℕ)) (c : List ℕ) (k at : ℕ) → IsOutcome vs c → 512 * k ≤ at → at + 8 ≤ 512 * k + 512 → at + 8 ≤ length c → SomeVersion (λ v. u64_at c at ≡ u64_at v at) vs
-u64_of_version vs c k at left low high inside =
-    some_more (λ v. reading c at 8 ≡ reading v at 8) (λ v. u64_at c at ≡ u64_at v at) vs (λ v same. u64_as c v at at same) (reading_of_version vs c k at 8 left low high inside)
-
--- on a whole number of eight bytes
-pub word_of_version : (vs : List (List ℕ)) (c : List ℕ) (at : ℕ) → IsOutcome vs c → at % 8 ≡ 0 → at + 8 ≤ length c → SomeVersion (λ v. u64_at c at ≡ u64_at v at) vs
-word_of_version vs c at left whole inside = u64_of_version vs c (at / 512) at left (omega arith) (omega arith) inside
-
 -- ---- in each version
 
 -- what it was at the last sync is one of the versions
@@ -75,38 +55,6 @@ steady_byte (v ∷ vs) c i b left each = elim (cases_lt i (length c)) [
       ∙ each_synced (λ w. byte w i ≡ b) v vs each
 ]
 
--- a range that reads the same in each version reads so in each outcome
-pub reading_steady : (vs : List (List ℕ)) (c : List ℕ) (at n : ℕ) (bytes : List ℕ) → IsOutcome vs c → EachVersion (λ v. reading v at n ≡ bytes) vs → reading c at n ≡ bytes
-reading_steady [] c at n bytes left each = absurd (left.sectors 0)
-reading_steady (v ∷ vs) c at n bytes left each =
-    let long : length bytes ≡ n = sym (ap length each.0) ∙ length-reading v at n in
-    sym (is_reading c bytes at n long (λ i low. sym (steady_byte (v ∷ vs) c (at + i) (byte bytes i) left
-    (each_more (λ w. reading w at n ≡ bytes) (λ w. byte w (at + i) ≡ byte bytes i) (v ∷ vs) (λ w is. sym (byte-reading w at n i low) ∙ ap (λ (bs : List ℕ). byte bs i) is) each))))
-
--- a range that no write since the last sync met: each version reads there as the synced one
-abbrev pub IsUnmet : ℕ → ℕ → List (List ℕ) → Type 0
-IsUnmet at n vs = EachVersion (λ v. reading v at n ≡ reading (synced vs) at n) vs
-
--- it reads in each outcome as synced
-pub reading_unmet : (vs : List (List ℕ)) (c : List ℕ) (at n : ℕ) → IsOutcome vs c → IsUnmet at n vs → reading c at n ≡ reading (synced vs) at n
-reading_unmet vs c at n left unmet = reading_steady vs c at n (reading (synced vs) at n) left unmet
-
--- once a file is synced each range is such
-pub unmet_synced : (at n : ℕ) (vs : List (List ℕ)) → IsUnmet at n (after_sync vs)
-unmet_synced at n [] = tt
-unmet_synced at n (v ∷ vs) = (refl, tt)
-
--- and stays so over a sync, done or not
-pub unmet_sync : (at n : ℕ) (vs ws : List (List ℕ)) → MaySync vs ws → IsUnmet at n vs → IsUnmet at n ws
-unmet_sync at n vs ws (inl same) unmet = subst (IsUnmet at n) (sym same) unmet
-unmet_sync at n vs ws (inr done) unmet = subst (IsUnmet at n) (sym done) (unmet_synced at n vs)
-
--- and over a write elsewhere, full or torn
-pub unmet_write : (at n place : ℕ) (bytes : List ℕ) (vs ws : List (List ℕ)) → (at + n ≤ place) ⊎ (place + length bytes ≤ at) → MayWrite place bytes vs ws → IsUnmet at n vs → IsUnmet at n ws
-unmet_write at n place bytes [] ws apart is unmet = subst (IsUnmet at n) (sym is) tt
-unmet_write at n place bytes (v ∷ vs) ws apart (inl same) unmet = subst (IsUnmet at n) (sym same) unmet
-unmet_write at n place bytes (v ∷ vs) ws apart (inr torn) unmet = subst (IsUnmet at n) (sym torn.2) (reading-torn place bytes v torn.0 at n torn.1 apart ∙ unmet.0, unmet)
-
 -- ---- where each sector is that of one file, or that of another
 
 -- a byte is that of the one or the other
@@ -123,132 +71,19 @@ mixed_range old latest new at n k mixed low high inside = ⊎_elim
     (λ (second : AgreesAt k new latest). inr (reading_same new latest at n (λ i from to. second i (omega arith) (omega arith) (omega arith))))
     (mixed k)
 
--- a number of eight bytes on a whole number of eight is that of the one or the other
-pub mixed_word : (old latest new : List ℕ) (at : ℕ) → IsMixed old latest new → at % 8 ≡ 0 → at + 8 ≤ length new → (u64_at new at ≡ u64_at old at) ⊎ (u64_at new at ≡ u64_at latest at)
-mixed_word old latest new at mixed whole inside = ⊎_elim
-    (λ (first : reading new at 8 ≡ reading old at 8). inl (u64_as new old at at first))
-    (λ (second : reading new at 8 ≡ reading latest at 8). inr (u64_as new latest at at second))
-    (mixed_range old latest new at 8 (at / 512) mixed (omega arith) (omega arith) inside)
-
--- a range that reads the same in both reads so
-pub mixed_same : (old latest new : List ℕ) (at n : ℕ) (read : List ℕ) → IsMixed old latest new → length old ≤ length new → reading old at n ≡ read → reading latest at n ≡ read → reading new at n ≡ read
-mixed_same old latest new at n read mixed longer first second =
-    let long : length read ≡ n = sym (ap length first) ∙ length-reading old at n in
-    sym (is_reading new read at n long (λ i low. sym (elim (cases_lt (at + i) (length new)) [
-      | inl inside ↦ ⊎_elim
-          (λ (same : byte new (at + i) ≡ byte old (at + i)). same ∙ sym (byte-reading old at n i low) ∙ ap (λ (bs : List ℕ). byte bs i) first)
-          (λ (same : byte new (at + i) ≡ byte latest (at + i)). same ∙ sym (byte-reading latest at n i low) ∙ ap (λ (bs : List ℕ). byte bs i) second)
-          (mixed_byte old latest new (at + i) mixed inside)
-      | inr past ↦ byte_past new (at + i) past ∙ sym (byte_past old (at + i) (omega arith)) ∙ sym (byte-reading old at n i low) ∙ ap (λ (bs : List ℕ). byte bs i) first
-    ])))
-
--- so too in a file that a write tore: one that reads the same before it and as it made it
-pub torn_same : (place : ℕ) (bytes old new : List ℕ) (at n : ℕ) (read : List ℕ) → IsTorn place bytes old new → reading old at n ≡ read → reading (overlay old place bytes) at n ≡ read → reading new at n ≡ read
-torn_same place bytes old new at n read torn before after = mixed_same old (overlay old place bytes) new at n read torn.sectors torn.no_shorter before after
+-- a number on a whole number of its bytes is that of the one or the other
+pub mixed_number : (w : Width) (old latest new : List ℕ) (at : ℕ) → IsMixed old latest new → at % byte_len w ≡ 0 → at + byte_len w ≤ length new → (number_at w new at ≡ number_at w old at) ⊎ (number_at w new at ≡ number_at w latest at)
+mixed_number w old latest new at mixed whole inside = ⊎_elim
+    (λ (first : reading new at (byte_len w) ≡ reading old at (byte_len w)). inl (number_as w new old at at first))
+    (λ (second : reading new at (byte_len w) ≡ reading latest at (byte_len w)). inr (number_as w new latest at at second))
+    (mixed_range old latest new at (byte_len w) (at / 512) mixed (omega arith) (in_sector w at whole) inside)
 
 -- a write that lies within the file keeps its length, torn or not
 pub torn_length : (place : ℕ) (bytes old new : List ℕ) → IsTorn place bytes old new → place + length bytes ≤ length old → length new ≡ length old
 torn_length place bytes old new torn inside = omega (arith, torn.no_shorter, torn.no_longer, length-overlay_inside old place bytes inside)
-
--- one that reaches further makes it no longer than that
-pub torn_no_longer : (place : ℕ) (bytes old new : List ℕ) → IsTorn place bytes old new → length new ≤ max (length old) (place + length bytes)
-torn_no_longer place [] old new torn = omega (arith, torn.no_longer, ap length (length-overlay_none old place))
-torn_no_longer place (b ∷ bs) old new torn = omega (arith, torn.no_longer, length-overlay old place (b ∷ bs) (omega arith))
 
 -- ---- in what reads give after a write
 
 -- the range that a write wrote reads as its bytes
 pub reading_written : {f place : ℕ} {bytes : List ℕ} {a b : World} (n : ℕ) → HasWritten f place bytes a b → IsTrue a.tells → n ≡ length bytes → reading (b.seen f) place n ≡ bytes
 reading_written {f} {place} {bytes} {a} {b} n done told all = ap (λ (c : List ℕ). reading c place n) (done.seen told) ∙ reading-overlay_same (a.seen f) place bytes n all
-
--- a range apart from it reads as before, whatever the write answered
-pub reading_apart : {f place : ℕ} {bytes : List ℕ} {a b : World} (at n : ℕ) → Writes f place bytes a b → IsTrue a.tells → (at + n ≤ place) ⊎ (place + length bytes ≤ at) → reading (b.seen f) at n ≡ reading (a.seen f) at n
-reading_apart {f} {place} {bytes} {a} {b} at n call told apart = reading-torn place bytes (a.seen f) (b.seen f) at n (call.torn told) apart
-
--- a number of two bytes that was written is that number; apart from a write it is as before
-pub u16_written : {f place : ℕ} {bytes : List ℕ} {a b : World} (v : ℕ) → HasWritten f place bytes a b → IsTrue a.tells → bytes ≡ to_be_bytes w16 v → v < 2 ^ 16 → u16_at (b.seen f) place ≡ v
-u16_written {f} {place} {bytes} {a} {b} v done told is fits =
-    u16_read (b.seen f) bytes place (reading_written 2 done told (sym (ap length is))) ∙ ap (λ (bs : List ℕ). from_be_bytes w16 bs) is ∙ from_be_bytes-to_be_bytes_2 v fits
-
-pub u16_apart : {f place : ℕ} {bytes : List ℕ} {a b : World} (at : ℕ) → Writes f place bytes a b → IsTrue a.tells → (at + 2 ≤ place) ⊎ (place + length bytes ≤ at) → u16_at (b.seen f) at ≡ u16_at (a.seen f) at
-u16_apart {f} {place} {bytes} {a} {b} at call told apart = u16-torn place bytes (a.seen f) (b.seen f) at (call.torn told) apart
-
--- a number of four bytes that was written is that number; apart from a write it is as before
-pub u32_written : {f place : ℕ} {bytes : List ℕ} {a b : World} (v : ℕ) → HasWritten f place bytes a b → IsTrue a.tells → bytes ≡ to_be_bytes w32 v → v < 2 ^ 32 → u32_at (b.seen f) place ≡ v
-u32_written {f} {place} {bytes} {a} {b} v done told is fits =
-    u32_read (b.seen f) bytes place (reading_written 4 done told (sym (ap length is))) ∙ ap (λ (bs : List ℕ). from_be_bytes w32 bs) is ∙ from_be_bytes-to_be_bytes_4 v fits
-
-pub u32_apart : {f place : ℕ} {bytes : List ℕ} {a b : World} (at : ℕ) → Writes f place bytes a b → IsTrue a.tells → (at + 4 ≤ place) ⊎ (place + length bytes ≤ at) → u32_at (b.seen f) at ≡ u32_at (a.seen f) at
-u32_apart {f} {place} {bytes} {a} {b} at call told apart = u32-torn place bytes (a.seen f) (b.seen f) at (call.torn told) apart
-
--- a number of eight bytes that was written is that number; apart from a write it is as before
-pub u64_written : {f place : ℕ} {bytes : List ℕ} {a b : World} (v : ℕ) → HasWritten f place bytes a b → IsTrue a.tells → bytes ≡ to_be_bytes w64 v → v < 2 ^ 64 → u64_at (b.seen f) place ≡ v
-u64_written {f} {place} {bytes} {a} {b} v done told is fits =
-    u64_read (b.seen f) bytes place (reading_written 8 done told (sym (ap length is))) ∙ ap (λ (bs : List ℕ). from_be_bytes w64 bs) is ∙ from_be_bytes-to_be_bytes_8 v fits
-
-pub u64_apart : {f place : ℕ} {bytes : List ℕ} {a b : World} (at : ℕ) → Writes f place bytes a b → IsTrue a.tells → (at + 8 ≤ place) ⊎ (place + length bytes ≤ at) → u64_at (b.seen f) at ≡ u64_at (a.seen f) at
-u64_apart {f} {place} {bytes} {a} {b} at call told apart = u64-torn place bytes (a.seen f) (b.seen f) at (call.torn told) apart
-
--- ---- in what each crash leaves
-
--- a write elsewhere keeps what a range reads in what each crash leaves
-pub range_spared : {f place : ℕ} {bytes : List ℕ} {a b : World} (at n : ℕ) (read : List ℕ) → IsSound a → Writes f place bytes a b → (at + n ≤ place) ⊎ (place + length bytes ≤ at)
-    → Leaves f (λ c. reading c at n ≡ read) (λ c. reading c at n ≡ read) (λ c. reading c at n ≡ read) a b
-range_spared {f} {place} {bytes} at n read sound call apart =
-    write_keeps (λ c. reading c at n ≡ read) sound call (λ old new is torn. reading-torn place bytes old new at n torn apart ∙ is)
-
--- and a number of two bytes
-pub u16_spared : {f place : ℕ} {bytes : List ℕ} {a b : World} (at v : ℕ) → IsSound a → Writes f place bytes a b → (at + 2 ≤ place) ⊎ (place + length bytes ≤ at)
-    → Leaves f (λ c. u16_at c at ≡ v) (λ c. u16_at c at ≡ v) (λ c. u16_at c at ≡ v) a b
-u16_spared {f} {place} {bytes} at v sound call apart = write_keeps (λ c. u16_at c at ≡ v) sound call (λ old new is torn. u16-torn place bytes old new at torn apart ∙ is)
-
--- and one of four bytes
-pub u32_spared : {f place : ℕ} {bytes : List ℕ} {a b : World} (at v : ℕ) → IsSound a → Writes f place bytes a b → (at + 4 ≤ place) ⊎ (place + length bytes ≤ at)
-    → Leaves f (λ c. u32_at c at ≡ v) (λ c. u32_at c at ≡ v) (λ c. u32_at c at ≡ v) a b
-u32_spared {f} {place} {bytes} at v sound call apart = write_keeps (λ c. u32_at c at ≡ v) sound call (λ old new is torn. u32-torn place bytes old new at torn apart ∙ is)
-
--- and one of eight bytes
-pub u64_spared : {f place : ℕ} {bytes : List ℕ} {a b : World} (at v : ℕ) → IsSound a → Writes f place bytes a b → (at + 8 ≤ place) ⊎ (place + length bytes ≤ at)
-    → Leaves f (λ c. u64_at c at ≡ v) (λ c. u64_at c at ≡ v) (λ c. u64_at c at ≡ v) a b
-u64_spared {f} {place} {bytes} at v sound call apart = write_keeps (λ c. u64_at c at ≡ v) sound call (λ old new is torn. u64-torn place bytes old new at torn apart ∙ is)
-
--- a write elsewhere keeps what a range reads, in reads and crashes alike
-pub range_spared_leads : {f place : ℕ} {bytes : List ℕ} {a b : World} (at n : ℕ) (read : List ℕ) → IsSound a → IsSound b → Writes f place bytes a b → (at + n ≤ place) ⊎ (place + length bytes ≤ at)
-    → Leads f (λ c. reading c at n ≡ read) (λ c. reading c at n ≡ read) (λ c. reading c at n ≡ read) (λ c. reading c at n ≡ read) (λ c. reading c at n ≡ read) a b
-range_spared_leads {f} {place} {bytes} {a} {b} at n read sound sound_b call apart =
-    write_leads Reads Reads Reads Reads Reads sound sound_b call (λ c is. is) (λ c is. is)
-    (λ is torn. (reading-torn place bytes (a.seen f) (b.seen f) at n torn apart ∙ is, λ old new was tore mixed. reading-torn place bytes old new at n tore apart ∙ was))
-  where
-    Reads : List ℕ → Type 0
-    Reads c = reading c at n ≡ read
-
--- a write within a sector leaves its range as it read before, or as written
-pub range_either : {f place : ℕ} {bytes : List ℕ} {a b : World} (k : ℕ) (read : List ℕ) → IsSound a → Writes f place bytes a b → 512 * k ≤ place → place + length bytes ≤ 512 * k + 512
-    → Leaves f (λ c. (place + length bytes ≤ length c) × (reading c place (length bytes) ≡ read))
-    (λ c. (place + length bytes ≤ length c) × ((reading c place (length bytes) ≡ read) ⊎ (reading c place (length bytes) ≡ bytes)))
-    (λ c. (place + length bytes ≤ length c) × ((reading c place (length bytes) ≡ read) ⊎ (reading c place (length bytes) ≡ bytes))) a b
-range_either {f} {place} {bytes} k read sound call low high =
-    write_leaves (λ c. (place + length bytes ≤ length c) × (reading c place (length bytes) ≡ read)) Either Either sound call (λ c was. (was.0, inl was.1)) (λ c has. has)
-    (λ old new was torn.
-    let inside : place + length bytes ≤ length new = omega (arith, was.0, torn.no_shorter) in (
-      inside,
-      ⊎_elim
-          (λ (same : reading new place (length bytes) ≡ reading old place (length bytes)). inl (same ∙ was.1))
-          (λ (done : reading new place (length bytes) ≡ reading (overlay old place bytes) place (length bytes)). inr (done ∙ reading-overlay_same old place bytes (length bytes) refl))
-          (reading_either place bytes old new place (length bytes) k torn low high inside),
-    ))
-  where
-    Either : List ℕ → Type 0
-    Either c = (place + length bytes ≤ length c) × ((reading c place (length bytes) ≡ read) ⊎ (reading c place (length bytes) ≡ bytes))
-
--- no write makes what a crash leaves shorter
-pub length_kept : {f place : ℕ} {bytes : List ℕ} {a b : World} (n : ℕ) → IsSound a → Writes f place bytes a b → Leaves f (λ c. n ≤ length c) (λ c. n ≤ length c) (λ c. n ≤ length c) a b
-length_kept n sound call = write_keeps (λ c. n ≤ length c) sound call (λ old new was torn. omega (arith, was, torn.no_shorter))
-
--- what a crash leaves is no longer than what reads give
-pub now_no_longer : (w : World) (f : ℕ) → IsSound w → EachNow w f (λ c. length c ≤ length (w.seen f))
-now_no_longer w f sound c left = by_cases (versions w f) (sound.latest f) left
-  where
-    by_cases : (vs : List (List ℕ)) → IsLatest (w.seen f) vs → IsOutcome vs c → length c ≤ length (w.seen f)
-    by_cases [] is left = absurd (left.sectors 0)
-    by_cases (v ∷ vs) is left = omega (arith, left.no_longer, ap length is)

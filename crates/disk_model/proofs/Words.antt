@@ -1,9 +1,9 @@
 -- What a range of a file reads, and the numbers in it.
 use Rattle.std.proofs.Common.{◌≡◌, ◌⊎◌, inl, inr, ⊎_elim, ℕ, zero, suc, ◌+◌, ◌*◌, ◌/◌, ◌%◌, ◌-◌, ◌^◌, ◌<◌, ◌≤◌, List, [], ◌∷◌, ◌++◌, length, take, drop, replicate, refl, sym, ◌∙◌, ap, arith, length-append, length-drop}
-use Rattle.std.specs.Int.{from_be_bytes, to_be_bytes, w16, w32, w64}
+use Rattle.std.specs.Int.{Width, byte_len, from_be_bytes, to_be_bytes, w8, w16, w32, w64, w128}
 use Rattle.std.proofs.lemmas.List.{take-append-le, take-replicate, drop_all, get_or_append_left, get_or-append_right}
 use Rattle.std.proofs.lemmas.Nat.{from_be_bytes-to_be_bytes_2, from_be_bytes-to_be_bytes_4, from_be_bytes-to_be_bytes_8}
-use Rattle.disk_model.specs.Files.{byte, reading, overlay, u16_at, u32_at, u64_at, IsTorn, AgreesAt}
+use Rattle.disk_model.specs.Files.{byte, reading, overlay, number_at, u16_at, u32_at, u64_at, IsTorn, AgreesAt}
 use Rattle.disk_model.proofs.Bytes.{length-reading, byte-reading, same_file, is_reading, byte-overlay_in}
 use Rattle.disk_model.proofs.Outcomes.{one_sector_write, torn_elsewhere, byte-overlay_outside}
 
@@ -117,200 +117,105 @@ reading_either place bytes old new at n k torn low high inside =
 pub word_write : (place : ℕ) (bytes old new : List ℕ) → IsTorn place bytes old new → length bytes ≡ 8 → place % 8 ≡ 0 → place + 8 ≤ length old → (new ≡ old) ⊎ (new ≡ overlay old place bytes)
 word_write place bytes old new torn eight whole inside = one_sector_write place bytes old new (place / 512) torn (omega arith) (omega arith) (omega arith)
 
--- ---- numbers of two bytes
+-- ---- numbers over a width
 
 -- the same bytes are the same number
-pub u16_same : (a b : List ℕ) (place : ℕ) → ((i : ℕ) → place ≤ i → i < place + 2 → byte a i ≡ byte b i) → u16_at a place ≡ u16_at b place
-unfolding u16_at
-u16_same a b place each = ap (λ (bs : List ℕ). from_be_bytes w16 bs) (reading_same a b place 2 each)
+pub number_same : (w : Width) (a b : List ℕ) (place : ℕ) → ((i : ℕ) → place ≤ i → i < place + byte_len w → byte a i ≡ byte b i) → number_at w a place ≡ number_at w b place
+unfolding number_at
+number_same w a b place each = ap (λ (bs : List ℕ). from_be_bytes w bs) (reading_same a b place (byte_len w) each)
 
 -- the number of what a range reads
-pub u16_read : (file bytes : List ℕ) (place : ℕ) → reading file place 2 ≡ bytes → u16_at file place ≡ from_be_bytes w16 bytes
-unfolding u16_at
-u16_read file bytes place is = ap (λ (bs : List ℕ). from_be_bytes w16 bs) is
+pub number_read : (w : Width) (file bytes : List ℕ) (place : ℕ) → reading file place (byte_len w) ≡ bytes → number_at w file place ≡ from_be_bytes w bytes
+unfolding number_at
+number_read w file bytes place is = ap (λ (bs : List ℕ). from_be_bytes w bs) is
 
 -- ranges that read the same have the same number
-pub u16_as : (a b : List ℕ) (at place : ℕ) → reading a at 2 ≡ reading b place 2 → u16_at a at ≡ u16_at b place
-unfolding u16_at
-u16_as a b at place is = ap (λ (bs : List ℕ). from_be_bytes w16 bs) is
-
--- within a file
-pub u16-inside : (file : List ℕ) (at : ℕ) → at + 2 ≤ length file → u16_at file at ≡ from_be_bytes w16 (take 2 (drop at file))
-u16-inside file at inside = u16_read file (take 2 (drop at file)) at (reading_inside file at 2 inside)
+pub number_as : (w : Width) (a b : List ℕ) (at place : ℕ) → reading a at (byte_len w) ≡ reading b place (byte_len w) → number_at w a at ≡ number_at w b place
+unfolding number_at
+number_as w a b at place is = ap (λ (bs : List ℕ). from_be_bytes w bs) is
 
 -- past its end
-pub u16-past : (file : List ℕ) (at : ℕ) → length file ≤ at → u16_at file at ≡ 0
-u16-past file at past = u16_read file (replicate 2 0) at (reading_past file at 2 past)
+pub number-past : (w : Width) (file : List ℕ) (at : ℕ) → length file ≤ at → number_at w file at ≡ 0
+number-past w file at past = number_read w file (replicate (byte_len w) 0) at (reading_past file at (byte_len w) past) ∙ zeros w
+  where
+    zeros : (w : Width) → from_be_bytes w (replicate (byte_len w) 0) ≡ 0
+    zeros w8 = refl
+    zeros w16 = refl
+    zeros w32 = refl
+    zeros w64 = refl
+    zeros w128 = refl
 
 -- in what a read gave
-pub u16-reading : (file : List ℕ) (place n at : ℕ) → at + 2 ≤ n → u16_at (reading file place n) at ≡ u16_at file (place + at)
-u16-reading file place n at inside = u16_as (reading file place n) file at (place + at) (reading-reading file place n at 2 inside)
+pub number-reading : (w : Width) (file : List ℕ) (place n at : ℕ) → at + byte_len w ≤ n → number_at w (reading file place n) at ≡ number_at w file (place + at)
+number-reading w file place n at inside = number_as w (reading file place n) file at (place + at) (reading-reading file place n at (byte_len w) inside)
 
 -- apart from what a torn write wrote
-pub u16-torn : (place : ℕ) (bytes old new : List ℕ) (at : ℕ) → IsTorn place bytes old new → (at + 2 ≤ place) ⊎ (place + length bytes ≤ at) → u16_at new at ≡ u16_at old at
-u16-torn place bytes old new at torn apart = u16_as new old at at (reading-torn place bytes old new at 2 torn apart)
-
--- apart from what a write wrote
-pub u16-overlay_other : (old : List ℕ) (place : ℕ) (bytes : List ℕ) (at : ℕ) → (at + 2 ≤ place) ⊎ (place + length bytes ≤ at) → u16_at (overlay old place bytes) at ≡ u16_at old at
-u16-overlay_other old place bytes at apart = u16_as (overlay old place bytes) old at at (reading-overlay_other old place bytes at 2 apart)
+pub number-torn : (w : Width) (place : ℕ) (bytes old new : List ℕ) (at : ℕ) → IsTorn place bytes old new → (at + byte_len w ≤ place) ⊎ (place + length bytes ≤ at) → number_at w new at ≡ number_at w old at
+number-torn w place bytes old new at torn apart = number_as w new old at at (reading-torn place bytes old new at (byte_len w) torn apart)
 
 -- within what a write wrote
-pub u16-overlay_part : (old : List ℕ) (place : ℕ) (bytes : List ℕ) (at : ℕ) → at + 2 ≤ length bytes → u16_at (overlay old place bytes) (place + at) ≡ u16_at bytes at
-u16-overlay_part old place bytes at inside = u16_as (overlay old place bytes) bytes (place + at) at (reading-overlay_part old place bytes at 2 inside)
+pub number-overlay_part : (w : Width) (old : List ℕ) (place : ℕ) (bytes : List ℕ) (at : ℕ) → at + byte_len w ≤ length bytes → number_at w (overlay old place bytes) (place + at) ≡ number_at w bytes at
+number-overlay_part w old place bytes at inside = number_as w (overlay old place bytes) bytes (place + at) at (reading-overlay_part old place bytes at (byte_len w) inside)
 
--- where a write wrote two bytes
-pub u16-overlay_same : (old : List ℕ) (place : ℕ) (bytes : List ℕ) → length bytes ≡ 2 → u16_at (overlay old place bytes) place ≡ from_be_bytes w16 bytes
-u16-overlay_same old place bytes long = u16_read (overlay old place bytes) bytes place (reading-overlay_same old place bytes 2 (sym long))
+-- where a write wrote as many bytes
+pub number-overlay_same : (w : Width) (old : List ℕ) (place : ℕ) (bytes : List ℕ) → length bytes ≡ byte_len w → number_at w (overlay old place bytes) place ≡ from_be_bytes w bytes
+number-overlay_same w old place bytes long = number_read w (overlay old place bytes) bytes place (reading-overlay_same old place bytes (byte_len w) (sym long))
+
+-- a number fits in a width of at most eight bytes
+abbrev pub FitsIn : Width → ℕ → Type 0
+FitsIn w8 v = v < 2 ^ 8
+FitsIn w16 v = v < 2 ^ 16
+FitsIn w32 v = v < 2 ^ 32
+FitsIn w64 v = v < 2 ^ 64
+FitsIn w128 v = ⊥
+
+-- its bytes give it back
+pub number_back : (w : Width) (v : ℕ) → FitsIn w v → from_be_bytes w (to_be_bytes w v) ≡ v
+number_back w8 v fits = omega arith
+number_back w16 v fits = from_be_bytes-to_be_bytes_2 v fits
+number_back w32 v fits = from_be_bytes-to_be_bytes_4 v fits
+number_back w64 v fits = from_be_bytes-to_be_bytes_8 v fits
+number_back w128 v fits = absurd fits
+
+pub length-to_be_bytes : (w : Width) (v : ℕ) → length (to_be_bytes w v) ≡ byte_len w
+length-to_be_bytes w8 v = refl
+length-to_be_bytes w16 v = refl
+length-to_be_bytes w32 v = refl
+length-to_be_bytes w64 v = refl
+length-to_be_bytes w128 v = refl
 
 -- where a write wrote a number
-pub u16-overlay_number : (old : List ℕ) (place v : ℕ) → v < 2 ^ 16 → u16_at (overlay old place (to_be_bytes w16 v)) place ≡ v
-u16-overlay_number old place v fits = u16-overlay_same old place (to_be_bytes w16 v) refl ∙ from_be_bytes-to_be_bytes_2 v fits
+pub number-overlay_number : (w : Width) (old : List ℕ) (place v : ℕ) → FitsIn w v → number_at w (overlay old place (to_be_bytes w v)) place ≡ v
+number-overlay_number w old place v fits = number-overlay_same w old place (to_be_bytes w v) (length-to_be_bytes w v) ∙ number_back w v fits
 
 -- where a number stands in a list that is put together
-pub u16-append : (before after : List ℕ) (at v : ℕ) → length before ≡ at → v < 2 ^ 16 → u16_at (before ++ to_be_bytes w16 v ++ after) at ≡ v
-u16-append before after at v start fits =
-    u16_read (before ++ to_be_bytes w16 v ++ after) (to_be_bytes w16 v) at (reading-append before (to_be_bytes w16 v) after at 2 start refl) ∙ from_be_bytes-to_be_bytes_2 v fits
+pub number-append : (w : Width) (before after : List ℕ) (at v : ℕ) → length before ≡ at → FitsIn w v → number_at w (before ++ to_be_bytes w v ++ after) at ≡ v
+number-append w before after at v start fits =
+    number_read w (before ++ to_be_bytes w v ++ after) (to_be_bytes w v) at (reading-append before (to_be_bytes w v) after at (byte_len w) start (length-to_be_bytes w v)) ∙ number_back w v fits
 
 -- of its bytes one by one
 pub u16_bytes : (file : List ℕ) (at : ℕ) → u16_at file at ≡ from_be_bytes w16 (byte file at ∷ byte file (at + 1) ∷ [])
-u16_bytes file at = u16_read file (byte file at ∷ byte file (at + 1) ∷ []) at (reading_2 file at)
+u16_bytes file at = number_read w16 file (byte file at ∷ byte file (at + 1) ∷ []) at (reading_2 file at)
 
--- on a whole number of two bytes it is as before a write that was torn, or as the write made it
-pub u16_either : (place : ℕ) (bytes old new : List ℕ) (at : ℕ) → IsTorn place bytes old new → at % 2 ≡ 0 → at + 2 ≤ length new → (u16_at new at ≡ u16_at old at) ⊎ (u16_at new at ≡ u16_at (overlay old place bytes) at)
-u16_either place bytes old new at torn whole inside =
-    ⊎_elim
-    (λ (same : reading new at 2 ≡ reading old at 2). inl (u16_as new old at at same))
-    (λ (done : reading new at 2 ≡ reading (overlay old place bytes) at 2). inr (u16_as new (overlay old place bytes) at at done))
-    (reading_either place bytes old new at 2 (at / 512) torn (omega arith) (omega arith) inside)
-
--- ---- numbers of four bytes
-
--- the same bytes are the same number
-pub u32_same : (a b : List ℕ) (place : ℕ) → ((i : ℕ) → place ≤ i → i < place + 4 → byte a i ≡ byte b i) → u32_at a place ≡ u32_at b place
-unfolding u32_at
-u32_same a b place each = ap (λ (bs : List ℕ). from_be_bytes w32 bs) (reading_same a b place 4 each)
-
--- the number of what a range reads
-pub u32_read : (file bytes : List ℕ) (place : ℕ) → reading file place 4 ≡ bytes → u32_at file place ≡ from_be_bytes w32 bytes
-unfolding u32_at
-u32_read file bytes place is = ap (λ (bs : List ℕ). from_be_bytes w32 bs) is
-
--- ranges that read the same have the same number
-pub u32_as : (a b : List ℕ) (at place : ℕ) → reading a at 4 ≡ reading b place 4 → u32_at a at ≡ u32_at b place
-unfolding u32_at
-u32_as a b at place is = ap (λ (bs : List ℕ). from_be_bytes w32 bs) is
-
--- within a file
-pub u32-inside : (file : List ℕ) (at : ℕ) → at + 4 ≤ length file → u32_at file at ≡ from_be_bytes w32 (take 4 (drop at file))
-u32-inside file at inside = u32_read file (take 4 (drop at file)) at (reading_inside file at 4 inside)
-
--- past its end
-pub u32-past : (file : List ℕ) (at : ℕ) → length file ≤ at → u32_at file at ≡ 0
-u32-past file at past = u32_read file (replicate 4 0) at (reading_past file at 4 past)
-
--- in what a read gave
-pub u32-reading : (file : List ℕ) (place n at : ℕ) → at + 4 ≤ n → u32_at (reading file place n) at ≡ u32_at file (place + at)
-u32-reading file place n at inside = u32_as (reading file place n) file at (place + at) (reading-reading file place n at 4 inside)
-
--- apart from what a torn write wrote
-pub u32-torn : (place : ℕ) (bytes old new : List ℕ) (at : ℕ) → IsTorn place bytes old new → (at + 4 ≤ place) ⊎ (place + length bytes ≤ at) → u32_at new at ≡ u32_at old at
-u32-torn place bytes old new at torn apart = u32_as new old at at (reading-torn place bytes old new at 4 torn apart)
-
--- apart from what a write wrote
-pub u32-overlay_other : (old : List ℕ) (place : ℕ) (bytes : List ℕ) (at : ℕ) → (at + 4 ≤ place) ⊎ (place + length bytes ≤ at) → u32_at (overlay old place bytes) at ≡ u32_at old at
-u32-overlay_other old place bytes at apart = u32_as (overlay old place bytes) old at at (reading-overlay_other old place bytes at 4 apart)
-
--- within what a write wrote
-pub u32-overlay_part : (old : List ℕ) (place : ℕ) (bytes : List ℕ) (at : ℕ) → at + 4 ≤ length bytes → u32_at (overlay old place bytes) (place + at) ≡ u32_at bytes at
-u32-overlay_part old place bytes at inside = u32_as (overlay old place bytes) bytes (place + at) at (reading-overlay_part old place bytes at 4 inside)
-
--- where a write wrote four bytes
-pub u32-overlay_same : (old : List ℕ) (place : ℕ) (bytes : List ℕ) → length bytes ≡ 4 → u32_at (overlay old place bytes) place ≡ from_be_bytes w32 bytes
-u32-overlay_same old place bytes long = u32_read (overlay old place bytes) bytes place (reading-overlay_same old place bytes 4 (sym long))
-
--- where a write wrote a number
-pub u32-overlay_number : (old : List ℕ) (place v : ℕ) → v < 2 ^ 32 → u32_at (overlay old place (to_be_bytes w32 v)) place ≡ v
-u32-overlay_number old place v fits = u32-overlay_same old place (to_be_bytes w32 v) refl ∙ from_be_bytes-to_be_bytes_4 v fits
-
--- where a number stands in a list that is put together
-pub u32-append : (before after : List ℕ) (at v : ℕ) → length before ≡ at → v < 2 ^ 32 → u32_at (before ++ to_be_bytes w32 v ++ after) at ≡ v
-u32-append before after at v start fits =
-    u32_read (before ++ to_be_bytes w32 v ++ after) (to_be_bytes w32 v) at (reading-append before (to_be_bytes w32 v) after at 4 start refl) ∙ from_be_bytes-to_be_bytes_4 v fits
-
--- of its bytes one by one
 pub u32_bytes : (file : List ℕ) (at : ℕ) → u32_at file at ≡ from_be_bytes w32 (byte file at ∷ byte file (at + 1) ∷ byte file (at + 2) ∷ byte file (at + 3) ∷ [])
-u32_bytes file at = u32_read file (byte file at ∷ byte file (at + 1) ∷ byte file (at + 2) ∷ byte file (at + 3) ∷ []) at (reading_4 file at)
+u32_bytes file at = number_read w32 file (byte file at ∷ byte file (at + 1) ∷ byte file (at + 2) ∷ byte file (at + 3) ∷ []) at (reading_4 file at)
 
--- on a whole number of four bytes it is as before a write that was torn, or as the write made it
-pub u32_either : (place : ℕ) (bytes old new : List ℕ) (at : ℕ) → IsTorn place bytes old new → at % 4 ≡ 0 → at + 4 ≤ length new → (u32_at new at ≡ u32_at old at) ⊎ (u32_at new at ≡ u32_at (overlay old place bytes) at)
-u32_either place bytes old new at torn whole inside =
-    ⊎_elim
-    (λ (same : reading new at 4 ≡ reading old at 4). inl (u32_as new old at at same))
-    (λ (done : reading new at 4 ≡ reading (overlay old place bytes) at 4). inr (u32_as new (overlay old place bytes) at at done))
-    (reading_either place bytes old new at 4 (at / 512) torn (omega arith) (omega arith) inside)
-
--- ---- numbers of eight bytes
-
--- the same bytes are the same number
-pub u64_same : (a b : List ℕ) (place : ℕ) → ((i : ℕ) → place ≤ i → i < place + 8 → byte a i ≡ byte b i) → u64_at a place ≡ u64_at b place
-unfolding u64_at
-u64_same a b place each = ap (λ (bs : List ℕ). from_be_bytes w64 bs) (reading_same a b place 8 each)
-
--- the number of what a range reads
-pub u64_read : (file bytes : List ℕ) (place : ℕ) → reading file place 8 ≡ bytes → u64_at file place ≡ from_be_bytes w64 bytes
-unfolding u64_at
-u64_read file bytes place is = ap (λ (bs : List ℕ). from_be_bytes w64 bs) is
-
--- ranges that read the same have the same number
-pub u64_as : (a b : List ℕ) (at place : ℕ) → reading a at 8 ≡ reading b place 8 → u64_at a at ≡ u64_at b place
-unfolding u64_at
-u64_as a b at place is = ap (λ (bs : List ℕ). from_be_bytes w64 bs) is
-
--- within a file
-pub u64-inside : (file : List ℕ) (at : ℕ) → at + 8 ≤ length file → u64_at file at ≡ from_be_bytes w64 (take 8 (drop at file))
-u64-inside file at inside = u64_read file (take 8 (drop at file)) at (reading_inside file at 8 inside)
-
--- past its end
-pub u64-past : (file : List ℕ) (at : ℕ) → length file ≤ at → u64_at file at ≡ 0
-u64-past file at past = u64_read file (replicate 8 0) at (reading_past file at 8 past)
-
--- in what a read gave
-pub u64-reading : (file : List ℕ) (place n at : ℕ) → at + 8 ≤ n → u64_at (reading file place n) at ≡ u64_at file (place + at)
-u64-reading file place n at inside = u64_as (reading file place n) file at (place + at) (reading-reading file place n at 8 inside)
-
--- apart from what a torn write wrote
-pub u64-torn : (place : ℕ) (bytes old new : List ℕ) (at : ℕ) → IsTorn place bytes old new → (at + 8 ≤ place) ⊎ (place + length bytes ≤ at) → u64_at new at ≡ u64_at old at
-u64-torn place bytes old new at torn apart = u64_as new old at at (reading-torn place bytes old new at 8 torn apart)
-
--- apart from what a write wrote
-pub u64-overlay_other : (old : List ℕ) (place : ℕ) (bytes : List ℕ) (at : ℕ) → (at + 8 ≤ place) ⊎ (place + length bytes ≤ at) → u64_at (overlay old place bytes) at ≡ u64_at old at
-u64-overlay_other old place bytes at apart = u64_as (overlay old place bytes) old at at (reading-overlay_other old place bytes at 8 apart)
-
--- within what a write wrote
-pub u64-overlay_part : (old : List ℕ) (place : ℕ) (bytes : List ℕ) (at : ℕ) → at + 8 ≤ length bytes → u64_at (overlay old place bytes) (place + at) ≡ u64_at bytes at
-u64-overlay_part old place bytes at inside = u64_as (overlay old place bytes) bytes (place + at) at (reading-overlay_part old place bytes at 8 inside)
-
--- where a write wrote eight bytes
-pub u64-overlay_same : (old : List ℕ) (place : ℕ) (bytes : List ℕ) → length bytes ≡ 8 → u64_at (overlay old place bytes) place ≡ from_be_bytes w64 bytes
-u64-overlay_same old place bytes long = u64_read (overlay old place bytes) bytes place (reading-overlay_same old place bytes 8 (sym long))
-
--- where a write wrote a number
-pub u64-overlay_number : (old : List ℕ) (place v : ℕ) → v < 2 ^ 64 → u64_at (overlay old place (to_be_bytes w64 v)) place ≡ v
-u64-overlay_number old place v fits = u64-overlay_same old place (to_be_bytes w64 v) refl ∙ from_be_bytes-to_be_bytes_8 v fits
-
--- where a number stands in a list that is put together
-pub u64-append : (before after : List ℕ) (at v : ℕ) → length before ≡ at → v < 2 ^ 64 → u64_at (before ++ to_be_bytes w64 v ++ after) at ≡ v
-u64-append before after at v start fits =
-    u64_read (before ++ to_be_bytes w64 v ++ after) (to_be_bytes w64 v) at (reading-append before (to_be_bytes w64 v) after at 8 start refl) ∙ from_be_bytes-to_be_bytes_8 v fits
-
--- of its bytes one by one
 pub u64_bytes : (file : List ℕ) (at : ℕ) → u64_at file at ≡ from_be_bytes w64 (byte file at ∷ byte file (at + 1) ∷ byte file (at + 2) ∷ byte file (at + 3) ∷ byte file (at + 4) ∷ byte file (at + 5) ∷ byte file (at + 6) ∷ byte file (at + 7) ∷ [])
-u64_bytes file at = u64_read file (byte file at ∷ byte file (at + 1) ∷ byte file (at + 2) ∷ byte file (at + 3) ∷ byte file (at + 4) ∷ byte file (at + 5) ∷ byte file (at + 6) ∷ byte file (at + 7) ∷ []) at (reading_8 file at)
+u64_bytes file at = number_read w64 file (byte file at ∷ byte file (at + 1) ∷ byte file (at + 2) ∷ byte file (at + 3) ∷ byte file (at + 4) ∷ byte file (at + 5) ∷ byte file (at + 6) ∷ byte file (at + 7) ∷ []) at (reading_8 file at)
 
--- on a whole number of eight bytes it is as before a write that was torn, or as the write made it
-pub u64_either : (place : ℕ) (bytes old new : List ℕ) (at : ℕ) → IsTorn place bytes old new → at % 8 ≡ 0 → at + 8 ≤ length new → (u64_at new at ≡ u64_at old at) ⊎ (u64_at new at ≡ u64_at (overlay old place bytes) at)
-u64_either place bytes old new at torn whole inside =
+-- a number on a whole number of its bytes lies within a sector
+pub in_sector : (w : Width) (at : ℕ) → at % byte_len w ≡ 0 → at + byte_len w ≤ 512 * (at / 512) + 512
+in_sector w8 at whole = omega arith
+in_sector w16 at whole = omega arith
+in_sector w32 at whole = omega arith
+in_sector w64 at whole = omega arith
+in_sector w128 at whole = omega arith
+
+-- there it is as before a write that was torn, or as the write made it
+pub number_either : (w : Width) (place : ℕ) (bytes old new : List ℕ) (at : ℕ) → IsTorn place bytes old new → at % byte_len w ≡ 0 → at + byte_len w ≤ length new
+    → (number_at w new at ≡ number_at w old at) ⊎ (number_at w new at ≡ number_at w (overlay old place bytes) at)
+number_either w place bytes old new at torn whole inside =
     ⊎_elim
-    (λ (same : reading new at 8 ≡ reading old at 8). inl (u64_as new old at at same))
-    (λ (done : reading new at 8 ≡ reading (overlay old place bytes) at 8). inr (u64_as new (overlay old place bytes) at at done))
-    (reading_either place bytes old new at 8 (at / 512) torn (omega arith) (omega arith) inside)
+    (λ (same : reading new at (byte_len w) ≡ reading old at (byte_len w)). inl (number_as w new old at at same))
+    (λ (done : reading new at (byte_len w) ≡ reading (overlay old place bytes) at (byte_len w)). inr (number_as w new (overlay old place bytes) at at done))
+    (reading_either place bytes old new at (byte_len w) (at / 512) torn (omega arith) (in_sector w at whole) inside)

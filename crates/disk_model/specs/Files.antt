@@ -2,7 +2,7 @@
 -- The versions of a file: what it is, then what it was before each write since the last sync that succeeded, and last what it was at that sync.
 -- A file whose versions are not told, or that is not there, has none.
 use Rattle.std.specs.Prelude.{◌≡◌, ◌⊎◌, ℕ, ◌+◌, ◌-◌, ◌*◌, ◌<◌, ◌≤◌, List, [], ◌∷◌, ◌++◌, length, get_or, take, drop, replicate, Bool, IsTrue}
-use Rattle.std.specs.Int.{from_be_bytes, w16, w32, w64}
+use Rattle.std.specs.Int.{Width, byte_len, from_be_bytes, w16, w32, w64}
 
 -- a byte of a file; zero past its end
 abbrev pub byte : List ℕ → ℕ → ℕ
@@ -89,12 +89,16 @@ abbrev pub IsTold : Bool → List (List ℕ) → Type 0
 IsTold tells [] = Unit {0}
 IsTold tells (v ∷ vs) = IsTrue tells
 
--- the numbers of two, four and eight bytes at an offset, the highest byte first
-unfoldable pub u16_at : List ℕ → ℕ → ℕ
-u16_at file place = from_be_bytes w16 (reading file place 2)
+-- the number of a width at an offset, the highest byte first
+unfoldable pub number_at : Width → List ℕ → ℕ → ℕ
+number_at w file place = from_be_bytes w (reading file place (byte_len w))
 
-unfoldable pub u32_at : List ℕ → ℕ → ℕ
-u32_at file place = from_be_bytes w32 (reading file place 4)
+-- those of two, four and eight bytes
+abbrev pub u16_at : List ℕ → ℕ → ℕ
+u16_at file place = number_at w16 file place
 
-unfoldable pub u64_at : List ℕ → ℕ → ℕ
-u64_at file place = from_be_bytes w64 (reading file place 8)
+abbrev pub u32_at : List ℕ → ℕ → ℕ
+u32_at file place = number_at w32 file place
+
+abbrev pub u64_at : List ℕ → ℕ → ℕ
+u64_at file place = number_at w64 file place

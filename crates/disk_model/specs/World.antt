@@ -33,6 +33,15 @@ pub record Wire : Type 0 where
   -- how often a send failed
   pub faults : ℕ
 
+-- how often calls failed
+pub record Faults : Type 0 where
+  -- how often a call failed, a send apart
+  pub shared : ℕ
+  -- how often a read of a file, or of its size, failed; how often a write or a sync of it did; how often a print did
+  pub reads : ℕ → ℕ
+  pub writes : ℕ → ℕ
+  pub prints : ℕ
+
 pub record World : Type 0 where
   -- whether it tells its files; whether it tells what a crash may leave of them
   pub tells : Bool
@@ -51,12 +60,7 @@ pub record World : Type 0 where
   -- whether it tells the text printed; that text
   pub prints : Bool
   pub printed : List ℕ
-  -- how often a call failed, a send apart
-  pub faults : ℕ
-  -- how often a read of a file, or of its size, failed; how often a write or a sync of it did; how often a print did
-  pub read_faults : ℕ → ℕ
-  pub write_faults : ℕ → ℕ
-  pub print_faults : ℕ
+  pub faults : Faults
   pub wire : Wire
 
 -- the versions of a file
@@ -120,29 +124,55 @@ file_and_text f = record { files = λ g. g ≡ f; reads = λ g. g ≡ f; names =
 abbrev pub making : List ℕ → ℕ → Parts
 making name f = record { files = λ g. g ≡ f; reads = λ g. ⊥; names = λ other. other ≡ name; text = ⊥; wire = ⊥ }
 
--- A run of calls that touches nothing but these parts: what is past stays as it was, numbers that were given stay, and no count falls.
-pub record Runs (parts : Parts) (old new : World) : Type 0 where
+-- no count falls
+pub record Counts (old new : Faults) : Type 0 where
+  pub shared : old.shared ≤ new.shared
+  pub reads : (f : ℕ) → old.reads f ≤ new.reads f
+  pub writes : (f : ℕ) → old.writes f ≤ new.writes f
+  pub prints : old.prints ≤ new.prints
+
+-- What no call undoes: what is past stays as it was, a file that was there lasts, numbers that were given stay, and no count falls.
+pub record GoesOn (old new : World) : Type 0 where
   pub later : old.now ≤ new.now
   pub kept : (k f : ℕ) → k ≤ old.now → new.past k f ≡ old.past k f
+  pub lasts : (k f : ℕ) → old.now ≤ k → k ≤ new.now → 0 < length (versions old f) → 0 < length (new.past k f)
   pub tells : new.tells ≡ old.tells
   pub outcomes : new.outcomes ≡ old.outcomes
   pub prints : new.prints ≡ old.prints
   pub given : old.given ≤ new.given
   pub named : (f : ℕ) → f < old.given → new.named f ≡ old.named f
-  pub faults : old.faults ≤ new.faults
-  pub read_faults : (f : ℕ) → old.read_faults f ≤ new.read_faults f
-  pub write_faults : (f : ℕ) → old.write_faults f ≤ new.write_faults f
-  pub print_faults : old.print_faults ≤ new.print_faults
+  pub counts : Counts old.faults new.faults
   pub send_faults : old.wire.faults ≤ new.wire.faults
-  -- the other files, at each moment
-  pub seen : (g : ℕ) → (parts.files g → ⊥) → new.seen g ≡ old.seen g
-  pub moments : (g k : ℕ) → (parts.files g → ⊥) → old.now ≤ k → k ≤ new.now → new.past k g ≡ versions old g
-  pub unwritten : (g : ℕ) → (parts.files g → ⊥) → new.write_faults g ≡ old.write_faults g
-  pub unread : (g : ℕ) → (parts.reads g → ⊥) → new.read_faults g ≡ old.read_faults g
+
+-- a file is the same at each moment, and none of its writes failed
+pub record SameFile (g : ℕ) (old new : World) : Type 0 where
+  pub seen : new.seen g ≡ old.seen g
+  pub moments : (k : ℕ) → old.now ≤ k → k ≤ new.now → new.past k g ≡ versions old g
+  pub unwritten : new.faults.writes g ≡ old.faults.writes g
+
+-- nothing was printed, and no print failed
+pub record SameText (old new : World) : Type 0 where
+  pub printed : new.printed ≡ old.printed
+  pub unprinted : new.faults.prints ≡ old.faults.prints
+
+-- A run of calls that touches nothing but these parts.
+pub record Runs (parts : Parts) (old new : World) : Type 0 where
+  pub goes : GoesOn old new
+  pub files : (g : ℕ) → (parts.files g → ⊥) → SameFile g old new
+  pub unread : (g : ℕ) → (parts.reads g → ⊥) → new.faults.reads g ≡ old.faults.reads g
   pub found : (name : List ℕ) → (parts.names name → ⊥) → new.found name ≡ old.found name
-  pub printed : (parts.text → ⊥) → new.printed ≡ old.printed
-  pub unprinted : (parts.text → ⊥) → new.print_faults ≡ old.print_faults
+  pub text : (parts.text → ⊥) → SameText old new
   pub wire : (parts.wire → ⊥) → new.wire ≡ old.wire
+
+-- Calls of others, prints and look-ups spared the file: it is as it was, in reads and in each crash.
+pub record IsSpared (old new : World) (f : ℕ) : Type 0 where
+  pub later : old.now ≤ new.now
+  pub tells : new.tells ≡ old.tells
+  pub outcomes : new.outcomes ≡ old.outcomes
+  pub given : old.given ≤ new.given
+  pub named : (g : ℕ) → g < old.given → new.named g ≡ old.named g
+  pub seen : new.seen f ≡ old.seen f
+  pub versions : versions new f ≡ versions old f
 
 -- the number was given for this name
 pub record IsGiven (f : ℕ) (name : List ℕ) (w : World) : Type 0 where
@@ -185,6 +215,8 @@ pub record HasSynced (f : ℕ) (old new : World) : Type 0 where
 -- a file of this name and number was made, or not: no other name and no other file changes, and this file had no name
 pub record MayMake (name : List ℕ) (f : ℕ) (old new : World) : Type 0 where
   pub run : Runs (making name f) old new
+  -- a number that was given before is this name's
+  pub named : f < old.given → old.named f ≡ name
   pub nameless : IsTrue old.tells → IsNameless old f
   pub absent : (k : ℕ) → old.now ≤ k → k < new.now → new.past k f ≡ []
   pub empty : IsTrue old.tells → new.seen f ≡ []
@@ -242,7 +274,19 @@ pub record Leads (f : ℕ) (S P R T Q : List ℕ → Type 0) (old new : World) :
   pub since : Holds f S P old → EachSince new old.now f R
   pub after : Holds f S P old → Holds f T Q new
 
+-- A world begins with what a crash left: reads give that, and nothing is left to be lost.
+pub record BeginsWith (left : ℕ → Option (List ℕ)) (w : World) : Type 0 where
+  pub seen : (f : ℕ) (c : List ℕ) → left f ≡ Some c → w.seen f ≡ c
+  pub settled : (f : ℕ) (c : List ℕ) → left f ≡ Some c → (versions w f ≡ []) ⊎ (versions w f ≡ c ∷ [])
+
 -- ---- faults
+
+-- no call failed
+pub record IsQuiet (old new : World) : Type 0 where
+  pub shared : new.faults.shared ≡ old.faults.shared
+  pub reads : (f : ℕ) → new.faults.reads f ≡ old.faults.reads f
+  pub writes : (f : ℕ) → new.faults.writes f ≡ old.faults.writes f
+  pub prints : new.faults.prints ≡ old.faults.prints
 
 -- a count rose, or stands at its end
 abbrev pub Rose : ℕ → ℕ → Type 0
@@ -250,19 +294,24 @@ Rose before now = min (before + 1) (2 ^ 64 - 1) ≤ now
 
 -- a call that looks up or makes a name fails only where the shared count rose
 abbrev pub FindCause : {T E : Type 0} → World → World → Result T E → Type 0
-FindCause old new result = OnErr result (Rose old.faults new.faults)
+FindCause old new result = OnErr result (Rose old.faults.shared new.faults.shared)
 
 -- one that reads a file, only where its count of failed reads rose too
 abbrev pub ReadCause : {T E : Type 0} → World → World → ℕ → Result T E → Type 0
-ReadCause old new f result = OnErr result (Rose old.faults new.faults × Rose (old.read_faults f) (new.read_faults f))
+ReadCause old new f result = OnErr result (Rose old.faults.shared new.faults.shared × Rose (old.faults.reads f) (new.faults.reads f))
 
 -- one that writes or syncs a file, only where its count of failed writes rose too
 abbrev pub WriteCause : {T E : Type 0} → World → World → ℕ → Result T E → Type 0
-WriteCause old new f result = OnErr result (Rose old.faults new.faults × Rose (old.write_faults f) (new.write_faults f))
+WriteCause old new f result = OnErr result (Rose old.faults.shared new.faults.shared × Rose (old.faults.writes f) (new.faults.writes f))
 
 -- one that prints, only where the count of failed prints rose too
 abbrev pub PrintCause : {T E : Type 0} → World → World → Result T E → Type 0
-PrintCause old new result = OnErr result (Rose old.faults new.faults × Rose old.print_faults new.print_faults)
+PrintCause old new result = OnErr result (Rose old.faults.shared new.faults.shared × Rose old.faults.prints new.faults.prints)
+
+-- a call on the file failed: a read of it, or a write or a sync
+pub record FileFailed (f : ℕ) (old new : World) : Type 0 where
+  pub shared : Rose old.faults.shared new.faults.shared
+  pub own : Rose (old.faults.reads f) (new.faults.reads f) ⊎ Rose (old.faults.writes f) (new.faults.writes f)
 
 -- where it is told, a part of this text was printed, from its start on
 abbrev pub PrintsPart : List ℕ → World → World → Type 0

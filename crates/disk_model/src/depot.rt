@@ -2,7 +2,7 @@
 
 ghost use Rattle.std.specs.Prelude.{◌≡◌, ◌⊎◌, ◌+◌, ◌^◌, ◌<◌, ◌≤◌, ℕ, List, [], ◌∷◌, ◌++◌, take, length, IsTrue, Some, None, option_map, IfOk, IfSome, MatchResult, OnOk, OnErr};
 ghost use Rattle.disk_model.specs.Files.{reading};
-ghost use Rattle.disk_model.specs.World.{World, versions, IsSound, IsGiven, Runs, nothing, reads_of, only_text, Writes, HasWritten, Syncs, HasSynced, IsMade, MayMake, FindCause, ReadCause, WriteCause, PrintCause, PrintsPart};
+ghost use Rattle.disk_model.specs.World.{World, versions, IsSound, IsGiven, Runs, nothing, reads_of, only_text, Writes, HasWritten, Syncs, HasSynced, IsMade, MayMake, FindCause, ReadCause, WriteCause, PrintCause, IsQuiet, PrintsPart};
 
 /// A file, by the number that `find` or `make` of its depot gave.
 #[derive(Clone, Copy, Debug, PartialEq, Eq)]
@@ -29,13 +29,14 @@ pub trait Outside {
 ///
 /// Offsets and lengths are in bytes. Files only grow; what lies past a file's end reads as zeros. A call fails with
 /// [`Failed`] only where the shared count of faults rose in it, and for a call on a file only where that file's count
-/// of failed reads, or of failed writes, rose too.
+/// of failed reads, or of failed writes, rose too. A call that succeeds raises no count.
 pub trait Depot: Outside {
     /// The file of this name, if it is there.
     fn find(&mut self, name: &str) -> Result<Option<FileNo>, Failed>
         ensures found { IfOk result (λ file. IsTrue (Self.world self.old).tells → option_map (λ f. f.0) file ≡ (Self.world self.old).found name.now) }
         ensures given { IfOk result (λ file. IfSome file (λ f. IsGiven f.0 name.now (Self.world self.new))) }
         ensures run { Runs nothing (Self.world self.old) (Self.world self.new) }
+        ensures quiet { OnOk result (IsQuiet (Self.world self.old) (Self.world self.new)) }
         ensures cause { FindCause (Self.world self.old) (Self.world self.new) result };
 
     /// Makes an empty file of this name, which a crash leaves in place. A file that is there stays as it is.
@@ -43,6 +44,7 @@ pub trait Depot: Outside {
         ensures made { MatchResult result
             (λ made. IsMade made name.now (Self.world self.old) (Self.world self.new))
             (λ _. (f : ℕ) × MayMake name.now f (Self.world self.old) (Self.world self.new)) }
+        ensures quiet { OnOk result (IsQuiet (Self.world self.old) (Self.world self.new)) }
         ensures cause { FindCause (Self.world self.old) (Self.world self.new) result };
 
     /// How many bytes a file has.
@@ -50,6 +52,7 @@ pub trait Depot: Outside {
         requires { file.0 < (Self.world self.old).given }
         ensures size { IfOk result (λ n. IsTrue (Self.world self.old).tells → n ≡ length ((Self.world self.old).seen file.0)) }
         ensures run { Runs (reads_of file.0) (Self.world self.old) (Self.world self.new) }
+        ensures quiet { OnOk result (IsQuiet (Self.world self.old) (Self.world self.new)) }
         ensures cause { ReadCause (Self.world self.old) (Self.world self.new) file.0 result };
 
     /// Reads bytes from an offset on.
@@ -58,6 +61,7 @@ pub trait Depot: Outside {
         requires end { at + length out.old ≤ 2 ^ 62 }
         ensures bytes { OnOk result (IsTrue (Self.world self.old).tells → out.new ≡ reading ((Self.world self.old).seen file.0) at (length out.old)) }
         ensures run { Runs (reads_of file.0) (Self.world self.old) (Self.world self.new) }
+        ensures quiet { OnOk result (IsQuiet (Self.world self.old) (Self.world self.new)) }
         ensures cause { ReadCause (Self.world self.old) (Self.world self.new) file.0 result };
 
     /// Writes bytes from an offset on. Until a sync that succeeds, a crash leaves each sector as before or as written;
@@ -67,6 +71,7 @@ pub trait Depot: Outside {
         requires end { at + length bytes.now ≤ 2 ^ 62 }
         ensures call { Writes file.0 at bytes.now (Self.world self.old) (Self.world self.new) }
         ensures done { OnOk result (HasWritten file.0 at bytes.now (Self.world self.old) (Self.world self.new)) }
+        ensures quiet { OnOk result (IsQuiet (Self.world self.old) (Self.world self.new)) }
         ensures cause { WriteCause (Self.world self.old) (Self.world self.new) file.0 result };
 
     /// After it, a crash leaves what reads give. One that failed changes nothing that a crash may leave.
@@ -75,6 +80,7 @@ pub trait Depot: Outside {
         ensures call { Syncs file.0 (Self.world self.old) (Self.world self.new) }
         ensures done { OnOk result (HasSynced file.0 (Self.world self.old) (Self.world self.new)) }
         ensures failed { OnErr result (versions (Self.world self.new) file.0 ≡ versions (Self.world self.old) file.0) }
+        ensures quiet { OnOk result (IsQuiet (Self.world self.old) (Self.world self.new)) }
         ensures cause { WriteCause (Self.world self.old) (Self.world self.new) file.0 result };
 
     /// Of each depot.
@@ -88,5 +94,6 @@ pub trait Console: Outside {
         ensures printed { OnOk result (IsTrue (Self.world self.old).prints → (Self.world self.new).printed ≡ (Self.world self.old).printed ++ text.now) }
         ensures part { PrintsPart text.now (Self.world self.old) (Self.world self.new) }
         ensures run { Runs only_text (Self.world self.old) (Self.world self.new) }
+        ensures quiet { OnOk result (IsQuiet (Self.world self.old) (Self.world self.new)) }
         ensures cause { PrintCause (Self.world self.old) (Self.world self.new) result };
 }
