@@ -2,7 +2,7 @@
 use Rattle.std.proofs.Common.{◌≡◌, ◌≢◌, ℕ, zero, suc, ◌<◌, ◌≤◌, List, [], ◌∷◌, length, map, get_or, set, refl, sym, ◌∙◌, ap, subst, arith, string_bytes, get_or-set_other}
 use Rattle.std.proofs.lemmas.List.{map-set, length-set}
 use Rattle.std.proofs.Math.Seq.{map-set_same}
-use Rattle.disk_model.specs.World.{World, Parts, Runs, reads_of, writes_of, IsGiven, Rose}
+use Rattle.disk_model.specs.World.{World, Parts, Runs, reads_of, writes_of, IsGiven, IsQuiet, Rose}
 use Rattle.disk_model.proofs.Laws.{stay}
 use Rattle.qback.specs.declared.table.Opened.{Opened}
 use Rattle.qback.specs.Real.{told}
@@ -38,55 +38,56 @@ equal_no_less : (m n : ℕ) → n ≡ m → m ≤ n
 equal_no_less m n same = omega (arith, same)
 
 module _ (table : List Opened) (i : ℕ) (e new : Opened) (is : e ≡ get_or table i e) (faults more prints : ℕ) (most : faults ≤ more) (name : string_bytes new.name ≡ string_bytes e.name) where
+  name_kept : (f : ℕ) → get_or (map (λ o. string_bytes o.name) (set table i new)) f [] ≡ get_or (map (λ o. string_bytes o.name) table) f []
+  name_kept f = ap (λ xs. get_or xs f []) (kept (λ o. string_bytes o.name) table i e new is name)
+
   -- the count of failed reads of an entry rises
   pub reads_rise : new.write_faults ≡ e.write_faults → e.read_faults ≤ new.read_faults → Runs (reads_of i) (told table faults prints) (told (set table i new) more prints)
-  reads_rise same up = record {
-    later = omega arith;
-    kept = λ k f le. refl;
-    tells = refl;
-    outcomes = refl;
-    prints = refl;
-    given = equal_no_less _ _ (length-set table i new);
-    named = λ f below. ap (λ xs. get_or xs f []) (kept (λ o. string_bytes o.name) table i e new is name);
-    faults = most;
-    read_faults = no_less (λ o. o.read_faults) table i e new is up;
-    write_faults = λ f. equal_no_less _ _ (ap (λ xs. get_or xs f 0) (kept (λ o. o.write_faults) table i e new is same));
-    print_faults = omega arith;
-    send_faults = omega arith;
-    seen = λ g apart. refl;
-    moments = λ g k apart from to. refl;
-    unwritten = λ g apart. ap (λ xs. get_or xs g 0) (kept (λ o. o.write_faults) table i e new is same);
-    unread = λ g apart. other (λ o. o.read_faults) table i g new apart;
-    found = λ other apart. refl;
-    printed = λ apart. refl;
-    unprinted = λ apart. refl;
-    wire = λ apart. refl;
-  }
+  reads_rise same up =
+    let writes : (f : ℕ) → get_or (map (λ o. o.write_faults) (set table i new)) f 0 ≡ get_or (map (λ o. o.write_faults) table) f 0 = λ f. ap (λ xs. get_or xs f 0) (kept (λ o. o.write_faults) table i e new is same) in
+    record {
+      goes = record {
+        later = omega arith;
+        kept = λ k f le. refl;
+        lasts = λ k f from to there. there;
+        tells = refl;
+        outcomes = refl;
+        prints = refl;
+        given = equal_no_less _ _ (length-set table i new);
+        named = λ f below. name_kept f;
+        counts = record { shared = most; reads = no_less (λ o. o.read_faults) table i e new is up; writes = λ f. equal_no_less _ _ (writes f); prints = omega arith };
+        send_faults = omega arith;
+      };
+      files = λ g apart. record { seen = refl; moments = λ k from to. refl; unwritten = writes g };
+      unread = λ g apart. other (λ o. o.read_faults) table i g new apart;
+      found = λ other apart. refl;
+      text = λ apart. record { printed = refl; unprinted = refl };
+      wire = λ apart. refl;
+    }
 
   -- the count of failed writes of an entry rises
   pub writes_rise : new.read_faults ≡ e.read_faults → e.write_faults ≤ new.write_faults → Runs (writes_of i) (told table faults prints) (told (set table i new) more prints)
-  writes_rise same up = record {
-    later = omega arith;
-    kept = λ k f le. refl;
-    tells = refl;
-    outcomes = refl;
-    prints = refl;
-    given = equal_no_less _ _ (length-set table i new);
-    named = λ f below. ap (λ xs. get_or xs f []) (kept (λ o. string_bytes o.name) table i e new is name);
-    faults = most;
-    read_faults = λ f. equal_no_less _ _ (ap (λ xs. get_or xs f 0) (kept (λ o. o.read_faults) table i e new is same));
-    write_faults = no_less (λ o. o.write_faults) table i e new is up;
-    print_faults = omega arith;
-    send_faults = omega arith;
-    seen = λ g apart. refl;
-    moments = λ g k apart from to. refl;
-    unwritten = λ g apart. other (λ o. o.write_faults) table i g new apart;
-    unread = λ g apart. ap (λ xs. get_or xs g 0) (kept (λ o. o.read_faults) table i e new is same);
-    found = λ other apart. refl;
-    printed = λ apart. refl;
-    unprinted = λ apart. refl;
-    wire = λ apart. refl;
-  }
+  writes_rise same up =
+    let reads : (f : ℕ) → get_or (map (λ o. o.read_faults) (set table i new)) f 0 ≡ get_or (map (λ o. o.read_faults) table) f 0 = λ f. ap (λ xs. get_or xs f 0) (kept (λ o. o.read_faults) table i e new is same) in
+    record {
+      goes = record {
+        later = omega arith;
+        kept = λ k f le. refl;
+        lasts = λ k f from to there. there;
+        tells = refl;
+        outcomes = refl;
+        prints = refl;
+        given = equal_no_less _ _ (length-set table i new);
+        named = λ f below. name_kept f;
+        counts = record { shared = most; reads = λ f. equal_no_less _ _ (reads f); writes = no_less (λ o. o.write_faults) table i e new is up; prints = omega arith };
+        send_faults = omega arith;
+      };
+      files = λ g apart. record { seen = refl; moments = λ k from to. refl; unwritten = other (λ o. o.write_faults) table i g new apart };
+      unread = λ g apart. reads g;
+      found = λ other apart. refl;
+      text = λ apart. record { printed = refl; unprinted = refl };
+      wire = λ apart. refl;
+    }
 
 -- an entry whose name and counts stay tells the same
 module _ (table : List Opened) (i : ℕ) (e new : Opened) (is : e ≡ get_or table i e) (faults prints : ℕ) (name : string_bytes new.name ≡ string_bytes e.name) where
@@ -99,6 +100,9 @@ module _ (table : List Opened) (i : ℕ) (e new : Opened) (is : e ≡ get_or tab
   -- a count of it rises from what it was
   pub rose_from : (field : Opened → ℕ) (after : ℕ) → field new ≡ field e → Rose (get_or (map field (set table i new)) i 0) after → Rose (get_or (map field table) i 0) after
   rose_from field after same rose = subst (λ (xs : List ℕ). Rose (get_or xs i 0) after) (kept field table i e new is same) rose
+
+  pub quiet_same : new.read_faults ≡ e.read_faults → new.write_faults ≡ e.write_faults → IsQuiet (told table faults prints) (told (set table i new) faults prints)
+  quiet_same reads writes = subst (λ (w : World). IsQuiet (told table faults prints) w) (sym (told_same reads writes)) (record { shared = refl; reads = λ f. refl; writes = λ f. refl; prints = refl })
 
   pub runs_from : (parts : Parts) (after : World) → new.read_faults ≡ e.read_faults → new.write_faults ≡ e.write_faults → Runs parts (told (set table i new) faults prints) after → Runs parts (told table faults prints) after
   runs_from parts after reads writes run = subst (λ (w : World). Runs parts w after) (told_same reads writes) run

@@ -3,25 +3,25 @@ use Rattle.qback.specs.declared.locks.Hold.{Hold}
 use Rattle.qback.specs.declared.locks.Hold.TheVariants.{Shared, Alone, Unlocked, Foreign, Lost}
 
 -- its size and reads
-abbrev pub MayRead : Hold → Type 0
-MayRead Shared = Unit {0}
-MayRead Alone = Unit {0}
-MayRead Unlocked = Unit {0}
-MayRead Foreign = Unit {0}
-MayRead Lost = ⊥
+abbrev pub AnswersReads : Hold → Type 0
+AnswersReads Shared = Unit {0}
+AnswersReads Alone = Unit {0}
+AnswersReads Unlocked = Unit {0}
+AnswersReads Foreign = Unit {0}
+AnswersReads Lost = ⊥
 
 -- its writes
-abbrev pub MayWrite : Hold → Type 0
-MayWrite Shared = ⊥
-MayWrite Alone = Unit {0}
-MayWrite Unlocked = Unit {0}
-MayWrite Foreign = ⊥
-MayWrite Lost = ⊥
+abbrev pub AnswersWrites : Hold → Type 0
+AnswersWrites Shared = ⊥
+AnswersWrites Alone = Unit {0}
+AnswersWrites Unlocked = Unit {0}
+AnswersWrites Foreign = ⊥
+AnswersWrites Lost = ⊥
 
 -- its syncs
-abbrev pub MaySync : Hold → Type 0
-MaySync Shared = Unit {0}
-MaySync Alone = Unit {0}
-MaySync Unlocked = Unit {0}
-MaySync Foreign = ⊥
-MaySync Lost = ⊥
+abbrev pub AnswersSyncs : Hold → Type 0
+AnswersSyncs Shared = Unit {0}
+AnswersSyncs Alone = Unit {0}
+AnswersSyncs Unlocked = Unit {0}
+AnswersSyncs Foreign = ⊥
+AnswersSyncs Lost = ⊥

@@ -31,10 +31,12 @@ told entries faults print_faults = record {
   past = λ k f. [];
   prints = false;
   printed = [];
-  faults = faults;
-  read_faults = λ f. get_or (map (λ e. e.read_faults) entries) f 0;
-  write_faults = λ f. get_or (map (λ e. e.write_faults) entries) f 0;
-  print_faults = print_faults;
+  faults = record {
+    shared = faults;
+    reads = λ f. get_or (map (λ e. e.read_faults) entries) f 0;
+    writes = λ f. get_or (map (λ e. e.write_faults) entries) f 0;
+    prints = print_faults;
+  };
   wire = no_wire;
 }
 

@@ -1,7 +1,7 @@
 //! Regular files of the host: opened, made and removed. Nothing else is opened.
 
 ghost use Rattle.std.specs.Prelude.{◌≡◌, ◌≢◌, true, false, IfOk};
-ghost use Rattle.qback.specs.Holding.{MayWrite};
+ghost use Rattle.qback.specs.Holding.{AnswersWrites};
 
 use crate::locks::{self, Hold};
 use crate::opening::Opening;
@@ -75,7 +75,7 @@ fn folder_of(name: &str) -> &str {
 /// Holds a file that was made, and waits until a crash leaves it.
 fn settle<R: Files<File = File>>(rt: &R, name: &str, made: &File) -> io::Result<Opening>
     ensures lasts { IfOk result (λ opening. opening.lasts ≡ false) }
-    ensures hold { IfOk result (λ opening. MayWrite opening.hold) }
+    ensures hold { IfOk result (λ opening. AnswersWrites opening.hold) }
 {
     let file = above_streams(made)?;
     let node = regular(&file.metadata()?)?;
@@ -93,7 +93,7 @@ fn settle<R: Files<File = File>>(rt: &R, name: &str, made: &File) -> io::Result<
 /// Makes a file that a crash leaves. Where this fails once the file is there, it is removed.
 pub fn create<R: Files<File = File>>(rt: &R, name: &str) -> io::Result<Opening>
     ensures lasts { IfOk result (λ opening. opening.lasts ≡ false) }
-    ensures hold { IfOk result (λ opening. MayWrite opening.hold) }
+    ensures hold { IfOk result (λ opening. AnswersWrites opening.hold) }
 {
     let made = File::create_new(rt, name)?;
     match settle(rt, name, &made) {

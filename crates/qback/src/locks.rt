@@ -1,7 +1,7 @@
 //! How a file is held against other runs of the program, by the host's advisory locks.
 
 ghost use Rattle.std.specs.Prelude.{◌≡◌, ◌≢◌, ◌⊎◌, ◌↔◌, IsTrue, IfOk};
-ghost use Rattle.qback.specs.Holding.{MayRead, MayWrite, MaySync};
+ghost use Rattle.qback.specs.Holding.{AnswersReads, AnswersWrites, AnswersSyncs};
 
 use std::fs::{File, TryLockError};
 use std::io::{self, ErrorKind};
@@ -27,7 +27,7 @@ pub enum Hold {
 impl Hold {
     /// Whether a file that is held so answers its size and reads.
     pub fn reads(self) -> bool
-        ensures { IsTrue result ↔ MayRead self }
+        ensures { IsTrue result ↔ AnswersReads self }
     {
         match self {
             Hold::Shared | Hold::Alone | Hold::Unlocked | Hold::Foreign => true,
@@ -37,7 +37,7 @@ impl Hold {
 
     /// Whether it answers writes.
     pub fn writes(self) -> bool
-        ensures { IsTrue result ↔ MayWrite self }
+        ensures { IsTrue result ↔ AnswersWrites self }
     {
         match self {
             Hold::Alone | Hold::Unlocked => true,
@@ -47,7 +47,7 @@ impl Hold {
 
     /// Whether it answers syncs.
     pub fn syncs(self) -> bool
-        ensures { IsTrue result ↔ MaySync self }
+        ensures { IsTrue result ↔ AnswersSyncs self }
     {
         match self {
             Hold::Shared | Hold::Alone | Hold::Unlocked => true,
@@ -75,7 +75,7 @@ pub fn share(file: &File) -> io::Result<Hold>
 
 /// Holds a file that was made.
 pub fn take(file: &File) -> io::Result<Hold>
-    ensures { IfOk result (λ hold. MayWrite hold) }
+    ensures { IfOk result (λ hold. AnswersWrites hold) }
 {
     match file.try_lock() {
         Ok(()) => Ok(Hold::Alone),

@@ -1,7 +1,7 @@
 //! An open file of the host, and the calls on it.
 
 ghost use Rattle.std.specs.Prelude.{◌≡◌, ◌≢◌, ◌+◌, ◌^◌, ◌≤◌, length, true, OnOk, OnErr};
-ghost use Rattle.qback.specs.Holding.{MayRead, MayWrite, MaySync};
+ghost use Rattle.qback.specs.Holding.{AnswersReads, AnswersWrites, AnswersSyncs};
 
 use crate::files::Node;
 use crate::locks::{self, Hold};
@@ -22,7 +22,7 @@ pub struct Opening {
 impl Opening {
     /// How many bytes it has.
     pub fn size(&self) -> Result<u64, Failed>
-        ensures { OnOk result (MayRead self.now.hold) }
+        ensures { OnOk result (AnswersReads self.now.hold) }
     {
         if !self.hold.reads() {
             return Err(Failed);
@@ -36,7 +36,7 @@ impl Opening {
     /// Fills the buffer with what it has from here on, and with zeros past its end.
     pub fn read_at(&self, at: u64, out: &mut [u8]) -> Result<(), Failed>
         requires { at + length out.old ≤ 2 ^ 62 }
-        ensures { OnOk result (MayRead self.now.hold) }
+        ensures { OnOk result (AnswersReads self.now.hold) }
     {
         if !self.hold.reads() {
             return Err(Failed);
@@ -47,8 +47,8 @@ impl Opening {
     /// Writes all of the bytes from here on. From the first write on it is held alone, or lost.
     pub fn write_at(&mut self, at: u64, bytes: &[u8]) -> Result<(), Failed>
         requires { at + length bytes.now ≤ 2 ^ 62 }
-        ensures held { OnOk result (MayWrite self.new.hold) }
-        ensures lost { MayRead self.new.hold → MayRead self.old.hold }
+        ensures held { OnOk result (AnswersWrites self.new.hold) }
+        ensures lost { AnswersReads self.new.hold → AnswersReads self.old.hold }
         ensures shared { self.new.hold ≢ Hold.Shared }
         ensures lasts { self.new.lasts ≡ self.old.lasts }
     {
@@ -61,7 +61,7 @@ impl Opening {
 
     /// Waits until a crash leaves what was written. From then on it stays when the depot goes.
     pub fn sync(&mut self) -> Result<(), Failed>
-        ensures held { OnOk result (MaySync self.old.hold) }
+        ensures held { OnOk result (AnswersSyncs self.old.hold) }
         ensures hold { self.new.hold ≡ self.old.hold }
         ensures lasts { OnOk result (self.new.lasts ≡ true) }
         ensures kept { OnErr result (self.new.lasts ≡ self.old.lasts) }

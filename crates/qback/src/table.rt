@@ -1,7 +1,7 @@
 //! The files that a run has opened, by their numbers, and how often calls failed.
 
 ghost use Rattle.std.specs.Prelude.{◌≡◌, [], ◌+◌, ◌^◌, ◌<◌, ◌≤◌, length, vec_len, vec_capacity, string_bytes, IfOk, IfSome, OnOk, OnErr};
-ghost use Rattle.disk_model.specs.World.{Runs, nothing, reads_of, writes_of, only_text, IsGiven, Rose, ReadCause, WriteCause};
+ghost use Rattle.disk_model.specs.World.{Runs, nothing, reads_of, writes_of, only_text, IsGiven, Rose, ReadCause, WriteCause, IsQuiet};
 ghost use Rattle.qback.specs.Real.{real};
 
 use crate::files::Node;
@@ -45,7 +45,7 @@ impl Table {
     /// Counts a fault of a call on no file.
     pub fn fault(&mut self) -> Failed
         ensures run { Runs nothing (real self.old) (real self.new) }
-        ensures rose { Rose (real self.old).faults (real self.new).faults }
+        ensures rose { Rose (real self.old).faults.shared (real self.new).faults.shared }
     {
         self.faults = self.faults.saturating_add(1);
         Failed
@@ -55,8 +55,8 @@ impl Table {
     fn read_fault(&mut self, file: FileNo) -> Failed
         requires { file.0 < length self.old.entries.items }
         ensures run { Runs (reads_of file.0) (real self.old) (real self.new) }
-        ensures rose { Rose (real self.old).faults (real self.new).faults }
-        ensures read { Rose ((real self.old).read_faults file.0) ((real self.new).read_faults file.0) }
+        ensures rose { Rose (real self.old).faults.shared (real self.new).faults.shared }
+        ensures read { Rose ((real self.old).faults.reads file.0) ((real self.new).faults.reads file.0) }
     {
         self.faults = self.faults.saturating_add(1);
         let opened = &mut self.entries[file.0 as usize];
@@ -68,8 +68,8 @@ impl Table {
     fn write_fault(&mut self, file: FileNo) -> Failed
         requires { file.0 < length self.old.entries.items }
         ensures run { Runs (writes_of file.0) (real self.old) (real self.new) }
-        ensures rose { Rose (real self.old).faults (real self.new).faults }
-        ensures wrote { Rose ((real self.old).write_faults file.0) ((real self.new).write_faults file.0) }
+        ensures rose { Rose (real self.old).faults.shared (real self.new).faults.shared }
+        ensures wrote { Rose ((real self.old).faults.writes file.0) ((real self.new).faults.writes file.0) }
     {
         self.faults = self.faults.saturating_add(1);
         let opened = &mut self.entries[file.0 as usize];
@@ -80,8 +80,8 @@ impl Table {
     /// Counts a fault of a print.
     pub fn print_fault(&mut self) -> Failed
         ensures run { Runs only_text (real self.old) (real self.new) }
-        ensures rose { Rose (real self.old).faults (real self.new).faults }
-        ensures printed { Rose (real self.old).print_faults (real self.new).print_faults }
+        ensures rose { Rose (real self.old).faults.shared (real self.new).faults.shared }
+        ensures printed { Rose (real self.old).faults.prints (real self.new).faults.prints }
     {
         self.faults = self.faults.saturating_add(1);
         self.print_faults = self.print_faults.saturating_add(1);
@@ -114,7 +114,8 @@ impl Table {
         ensures room { OnOk result (vec_len self.new.entries < vec_capacity self.new.entries) }
         ensures number { IfOk result (λ place. place.0.0 ≡ length self.new.entries.items) }
         ensures name { IfOk result (λ place. string_bytes place.1 ≡ name.now) }
-        ensures cause { OnErr result (Rose (real self.old).faults (real self.new).faults) }
+        ensures quiet { OnOk result (IsQuiet (real self.old) (real self.new)) }
+        ensures cause { OnErr result (Rose (real self.old).faults.shared (real self.new).faults.shared) }
     {
         let Ok(number) = u32::try_from(self.entries.len()) else {
             return Err(self.fault());
@@ -132,6 +133,7 @@ impl Table {
     pub fn add(&mut self, opening: Opening, name: String)
         requires { vec_len self.old.entries < vec_capacity self.old.entries }
         ensures run { Runs nothing (real self.old) (real self.new) }
+        ensures quiet { IsQuiet (real self.old) (real self.new) }
         ensures given { IsGiven (length self.old.entries.items) (string_bytes name) (real self.new) }
     {
         self.entries.push_reserved(Opened {
@@ -146,6 +148,7 @@ impl Table {
     pub fn size(&mut self, file: FileNo) -> Result<u64, Failed>
         requires { file.0 < length self.old.entries.items }
         ensures run { Runs (reads_of file.0) (real self.old) (real self.new) }
+        ensures quiet { OnOk result (IsQuiet (real self.old) (real self.new)) }
         ensures cause { ReadCause (real self.old) (real self.new) file.0 result }
     {
         match self.entries[file.0 as usize].opening.size() {
@@ -159,6 +162,7 @@ impl Table {
         requires given { file.0 < length self.old.entries.items }
         requires end { at + length out.old ≤ 2 ^ 62 }
         ensures run { Runs (reads_of file.0) (real self.old) (real self.new) }
+        ensures quiet { OnOk result (IsQuiet (real self.old) (real self.new)) }
         ensures cause { ReadCause (real self.old) (real self.new) file.0 result }
     {
         match self.entries[file.0 as usize].opening.read_at(at, out) {
@@ -172,6 +176,7 @@ impl Table {
         requires given { file.0 < length self.old.entries.items }
         requires end { at + length bytes.now ≤ 2 ^ 62 }
         ensures run { Runs (writes_of file.0) (real self.old) (real self.new) }
+        ensures quiet { OnOk result (IsQuiet (real self.old) (real self.new)) }
         ensures cause { WriteCause (real self.old) (real self.new) file.0 result }
     {
         match self.entries[file.0 as usize].opening.write_at(at, bytes) {
@@ -184,6 +189,7 @@ impl Table {
     pub fn sync(&mut self, file: FileNo) -> Result<(), Failed>
         requires { file.0 < length self.old.entries.items }
         ensures run { Runs (writes_of file.0) (real self.old) (real self.new) }
+        ensures quiet { OnOk result (IsQuiet (real self.old) (real self.new)) }
         ensures cause { WriteCause (real self.old) (real self.new) file.0 result }
     {
         match self.entries[file.0 as usize].opening.sync() {
