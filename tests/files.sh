@@ -57,7 +57,7 @@ gone() { [ ! -e "$1" ] || fail "$1 is there: $2"; }
 limited() { (trap '' XFSZ && ulimit -f "$1" && "${@:2}"); }
 
 # Runs a command with a fault in a call on the host.
-broken() { strace -f -o /dev/null -e "inject=$1" "${@:2}" 2>/dev/null; }
+broken() { strace -f -o faults -e "inject=$1" "${@:2}" 2>/dev/null; }
 
 # Runs the program, and finds its calls on the host, with the paths of files, in this order.
 asks() {
@@ -159,7 +159,7 @@ runs_at_once() {
 
 # Two names of one file in one run.
 two_names() {
-    ln s same
+    cp s kept && ln s same
     says 3 'device\n' replay s ./s
     says 3 'device\n' replay s same
     says 5 'line 1\n' replay s s
@@ -219,6 +219,8 @@ calls() {
     asks "pwrite64\($file.* write\(1<[^>]*>, \"ok.* fdatasync\($file\) += 0 write\(1<[^>]*>, \"ok.* write\(1<[^>]*>, \"stopped" \
         replay folder/n flushes
     asks "pwrite64\($file.* fdatasync\($file\) += 0 write\(1<[^>]*>, \"ok" replay folder/n again
+    asks 'statx\(.*"fifo"' info fifo
+    ! grep -q 'openat(.*"fifo"' calls || fail 'what is no regular file was opened'
 }
 
 # Faults of the host.
@@ -236,15 +238,25 @@ faults() {
     before='broken flock:error=ENOLCK' says 0 'made o\n' create-source o 16384 12 $id
 }
 
-# A name that is exchanged while the program runs.
+# Once a command succeeds, puts a file in place of another.
+once() {
+    for _ in $(seq 100); do
+        "${@:3}" && break
+        sleep 0.02
+    done 2>/dev/null
+    mv -f "$1" "$2"
+}
+
+# A name that is exchanged while the program runs: after its look at a file, and while a new file is synced.
 exchanges() {
     cp s other
-    { sleep 0.3 && mv -f fifo s; } &
-    before="broken openat:delay_enter=600000 -P s" says 3 'device\n' info s
+    rm -f faults
+    once fifo s grep -q statx faults &
+    before='broken openat:delay_enter=1000000 -P s' says 3 'device\n' info s
     wait
     rm s && cp other s
-    { sleep 0.3 && mv -f other p; } &
-    before='broken fdatasync:error=EIO:delay_enter=600000' says 3 'device\n' create-source p 512 9 $id
+    once other p [ -e p ] &
+    before='broken fdatasync:error=EIO:delay_enter=1000000' says 3 'device\n' create-source p 512 9 $id
     wait
     same p s 'a file that another program put in place of a half-made one'
 }

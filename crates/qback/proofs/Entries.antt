@@ -44,50 +44,50 @@ module _ (table : List Opened) (i : ℕ) (e new : Opened) (is : e ≡ get_or tab
   -- the count of failed reads of an entry rises
   pub reads_rise : new.write_faults ≡ e.write_faults → e.read_faults ≤ new.read_faults → Runs (reads_of i) (told table faults prints) (told (set table i new) more prints)
   reads_rise same up =
-    let writes : (f : ℕ) → get_or (map (λ o. o.write_faults) (set table i new)) f 0 ≡ get_or (map (λ o. o.write_faults) table) f 0 = λ f. ap (λ xs. get_or xs f 0) (kept (λ o. o.write_faults) table i e new is same) in
-    record {
-      goes = record {
-        later = omega arith;
-        kept = λ k f le. refl;
-        lasts = λ k f from to there. there;
-        tells = refl;
-        outcomes = refl;
-        prints = refl;
-        given = equal_no_less _ _ (length-set table i new);
-        named = λ f below. name_kept f;
-        counts = record { shared = most; reads = no_less (λ o. o.read_faults) table i e new is up; writes = λ f. equal_no_less _ _ (writes f); prints = omega arith };
-        send_faults = omega arith;
-      };
-      files = λ g apart. record { seen = refl; moments = λ k from to. refl; unwritten = writes g };
-      unread = λ g apart. other (λ o. o.read_faults) table i g new apart;
-      found = λ other apart. refl;
-      text = λ apart. record { printed = refl; unprinted = refl };
-      wire = λ apart. refl;
-    }
+      let writes : (f : ℕ) → get_or (map (λ o. o.write_faults) (set table i new)) f 0 ≡ get_or (map (λ o. o.write_faults) table) f 0 = λ f. ap (λ xs. get_or xs f 0) (kept (λ o. o.write_faults) table i e new is same) in
+      record {
+        goes = record {
+          later = omega arith;
+          kept = λ k f le. refl;
+          lasts = λ k f from to there. there;
+          tells = refl;
+          outcomes = refl;
+          prints = refl;
+          given = equal_no_less _ _ (length-set table i new);
+          named = λ f below. name_kept f;
+          counts = record { shared = most; reads = no_less (λ o. o.read_faults) table i e new is up; writes = λ f. equal_no_less _ _ (writes f); prints = omega arith };
+          send_faults = omega arith;
+        };
+        files = λ g apart. record { seen = refl; moments = λ k from to. refl; unwritten = writes g };
+        unread = λ g apart. other (λ o. o.read_faults) table i g new apart;
+        found = λ other apart. refl;
+        text = λ apart. record { printed = refl; unprinted = refl };
+        wire = λ apart. refl;
+      }
 
   -- the count of failed writes of an entry rises
   pub writes_rise : new.read_faults ≡ e.read_faults → e.write_faults ≤ new.write_faults → Runs (writes_of i) (told table faults prints) (told (set table i new) more prints)
   writes_rise same up =
-    let reads : (f : ℕ) → get_or (map (λ o. o.read_faults) (set table i new)) f 0 ≡ get_or (map (λ o. o.read_faults) table) f 0 = λ f. ap (λ xs. get_or xs f 0) (kept (λ o. o.read_faults) table i e new is same) in
-    record {
-      goes = record {
-        later = omega arith;
-        kept = λ k f le. refl;
-        lasts = λ k f from to there. there;
-        tells = refl;
-        outcomes = refl;
-        prints = refl;
-        given = equal_no_less _ _ (length-set table i new);
-        named = λ f below. name_kept f;
-        counts = record { shared = most; reads = λ f. equal_no_less _ _ (reads f); writes = no_less (λ o. o.write_faults) table i e new is up; prints = omega arith };
-        send_faults = omega arith;
-      };
-      files = λ g apart. record { seen = refl; moments = λ k from to. refl; unwritten = other (λ o. o.write_faults) table i g new apart };
-      unread = λ g apart. reads g;
-      found = λ other apart. refl;
-      text = λ apart. record { printed = refl; unprinted = refl };
-      wire = λ apart. refl;
-    }
+      let reads : (f : ℕ) → get_or (map (λ o. o.read_faults) (set table i new)) f 0 ≡ get_or (map (λ o. o.read_faults) table) f 0 = λ f. ap (λ xs. get_or xs f 0) (kept (λ o. o.read_faults) table i e new is same) in
+      record {
+        goes = record {
+          later = omega arith;
+          kept = λ k f le. refl;
+          lasts = λ k f from to there. there;
+          tells = refl;
+          outcomes = refl;
+          prints = refl;
+          given = equal_no_less _ _ (length-set table i new);
+          named = λ f below. name_kept f;
+          counts = record { shared = most; reads = λ f. equal_no_less _ _ (reads f); writes = no_less (λ o. o.write_faults) table i e new is up; prints = omega arith };
+          send_faults = omega arith;
+        };
+        files = λ g apart. record { seen = refl; moments = λ k from to. refl; unwritten = other (λ o. o.write_faults) table i g new apart };
+        unread = λ g apart. reads g;
+        found = λ other apart. refl;
+        text = λ apart. record { printed = refl; unprinted = refl };
+        wire = λ apart. refl;
+      }
 
 -- an entry whose name and counts stay tells the same
 module _ (table : List Opened) (i : ℕ) (e new : Opened) (is : e ≡ get_or table i e) (faults prints : ℕ) (name : string_bytes new.name ≡ string_bytes e.name) where

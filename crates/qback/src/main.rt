@@ -10,7 +10,7 @@ mod real;
 mod table;
 
 use real::RealDepot;
-use std::alloc::{AllocError, Global};
+use std::alloc::AllocError;
 use std::env;
 use std::io::ErrorKind;
 use std::process::ExitCode;

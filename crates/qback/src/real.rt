@@ -4,7 +4,6 @@ ghost use Rattle.std.specs.Prelude.{◌≡◌, [], IfOk};
 ghost use Rattle.qback.specs.Real.{real, real_sound};
 
 use crate::files;
-use crate::opening::Opening;
 use crate::table::Table;
 use disk_model::{Console, Depot, Failed, FileNo, Made, Outside};
 use std::alloc::{AllocError, Global};

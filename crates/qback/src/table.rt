@@ -105,7 +105,9 @@ impl Table {
 
     /// Whether this file of the host is open, by whatever name.
     pub fn has(&self, node: Node) -> bool {
-        self.entries.iter().any(|opened| opened.opening.node == node)
+        self.entries
+            .iter()
+            .any(|opened| opened.opening.node == node)
     }
 
     /// Takes room for one more file and its name.
