@@ -178,11 +178,11 @@ streams() {
     ends 3 "a creation without standard output isn't told"
     says 0 'kind source\nsize 16384\ncluster 4096\nid 00112233445566778899aabbccddeeff\nepoch 0\n' info quiet
     says 0 'data 00aabb00\nok\n' replay s reads
-    printf 'read 0 4096\nstop\n' >page
-    limited 1 "$program" replay s page >cut
+    head -c 1000 /dev/zero >cut
+    limited 1 "$program" info s >>cut
     ends 3 "a print that was cut short isn't told"
-    { printf 'data ' && head -c 1019 /dev/zero | tr '\0' 0; } >due
-    same cut due "a print that was cut short isn't the line's start"
+    { head -c 1000 /dev/zero && "$program" info s | head -c 24; } >due
+    same cut due "a print that was cut short isn't the text's start"
 }
 
 # A file that can't be whole isn't left, and a write that was cut short isn't told as done.
