@@ -3,7 +3,8 @@ use Rattle.std.specs.Prelude.{ℕ, List, [], length, get_or, map, None, false, s
 use Rattle.std.proofs.Common.{refl}
 use Rattle.std.proofs.lemmas.Option.{none-some}
 use Rattle.disk_model.specs.World.{World, Wire, IsSound}
-use Rattle.qback.specs.declared.real.Opened.{Opened}
+use Rattle.qback.specs.declared.table.Opened.{Opened}
+use Rattle.qback.specs.declared.table.Table.{Table}
 
 -- a wire with nothing on it
 abbrev pub no_wire : Wire
@@ -17,29 +18,35 @@ no_wire = record {
   faults = 0;
 }
 
--- what the table and the counts tell
-abbrev pub real : List Opened → ℕ → ℕ → World
-real table faults print_faults = record {
+-- what entries and counts tell
+abbrev pub told : List Opened → ℕ → ℕ → World
+told entries faults print_faults = record {
   tells = false;
   outcomes = false;
   found = λ name. None;
-  given = length table;
-  named = λ f. get_or (map (λ e. string_bytes e.name) table) f [];
+  given = length entries;
+  named = λ f. get_or (map (λ e. string_bytes e.name) entries) f [];
   seen = λ f. [];
   now = 0;
   past = λ k f. [];
   prints = false;
   printed = [];
-  faults = faults;
-  read_faults = λ f. get_or (map (λ e. e.read_faults) table) f 0;
-  write_faults = λ f. get_or (map (λ e. e.write_faults) table) f 0;
-  print_faults = print_faults;
+  faults = record {
+    shared = faults;
+    reads = λ f. get_or (map (λ e. e.read_faults) entries) f 0;
+    writes = λ f. get_or (map (λ e. e.write_faults) entries) f 0;
+    prints = print_faults;
+  };
   wire = no_wire;
 }
 
+-- what a table tells
+abbrev pub real : Table → World
+real table = told table.entries.items table.faults table.print_faults
+
 -- it keeps the laws of a depot
-pub real_sound : (table : List Opened) (faults print_faults : ℕ) → IsSound (real table faults print_faults)
-real_sound table faults print_faults = record {
+pub real_sound : (table : Table) → IsSound (real table)
+real_sound table = record {
   grown = λ k f. tt;
   latest = λ f. tt;
   told = λ k f. tt;

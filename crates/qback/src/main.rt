@@ -3,10 +3,14 @@
 
 ghost use Rattle.std.specs.Prelude.{◌≡◌, ◌⊎◌, ◌≤◌, IfOk};
 
+mod files;
+mod locks;
+mod opening;
 mod real;
+mod table;
 
 use real::RealDepot;
-use std::alloc::{AllocError, Global};
+use std::alloc::AllocError;
 use std::env;
 use std::io::ErrorKind;
 use std::process::ExitCode;

@@ -1,220 +1,54 @@
 //! The files and the standard output of the host.
 
-ghost use Rattle.std.specs.Prelude.{◌≡◌, [], ◌+◌, ◌^◌, ◌<◌, ◌≤◌, length, IfOk, IfSome, OnErr};
-ghost use Rattle.disk_model.specs.World.{Runs, nothing, reads_of, writes_of, only_text, IsGiven, Rose};
+ghost use Rattle.std.specs.Prelude.{◌≡◌, [], IfOk};
 ghost use Rattle.qback.specs.Real.{real, real_sound};
 
+use crate::files;
+use crate::table::Table;
 use disk_model::{Console, Depot, Failed, FileNo, Made, Outside};
 use std::alloc::{AllocError, Global};
-use std::fs::{self, File, OpenOptions};
-use std::io::{self, ErrorKind};
-use std::os::fd::AsRawFd;
-use std::os::unix::fs::FileExt;
-use std::path::Path;
+use std::fs::File;
+use std::io::ErrorKind;
 use std::rt::Files;
-
-/// How many files the table has room for at first.
-const ROOM: usize = 4;
-
-/// The highest number of a standard stream.
-const LAST_STREAM: i32 = 2;
-
-/// An open file, its name, and how often a read and a write of it failed.
-#[derive(Drop)]
-struct Opened {
-    file: File,
-    name: String,
-    read_faults: u64,
-    write_faults: u64,
-}
 
 /// The files of the host, by their places in a table of those opened, and its standard output.
 ///
-/// It tells its counts of faults and the names in its table, and nothing of what files hold.
-#[derive(Drop)]
+/// It tells its counts of faults and the names in its table, and nothing of what files hold. A file that it made is
+/// removed when it goes, unless a sync of it ended well.
 pub struct RealDepot<R: Files<File = File> + Print + Drop> {
     rt: R,
     alloc: Global,
-    table: Vec<Opened>,
-    faults: u64,
-    print_faults: u64,
+    table: Table,
 }
 
 impl<R: Files<File = File> + Print + Drop> RealDepot<R> {
     /// A depot that has opened nothing.
     pub fn new(rt: R, alloc: Global) -> Result<RealDepot<R>, AllocError>
-        ensures { IfOk result (λ depot. (depot.table.items ≡ []) × (depot.faults ≡ 0) × (depot.print_faults ≡ 0)) }
+        ensures { IfOk result (λ depot. (depot.table.entries.items ≡ []) × (depot.table.faults ≡ 0) × (depot.table.print_faults ≡ 0)) }
     {
-        let table = Vec::with_capacity(alloc, ROOM)?;
-        Ok(RealDepot {
-            rt,
-            alloc,
-            table,
-            faults: 0,
-            print_faults: 0,
-        })
+        let table = Table::new(alloc)?;
+        Ok(RealDepot { rt, alloc, table })
     }
 
-    /// Counts a fault of a call on no file.
-    fn fault(&mut self) -> Failed
-        ensures run { Runs nothing (real self.old.table.items self.old.faults self.old.print_faults) (real self.new.table.items self.new.faults self.new.print_faults) }
-        ensures rose { Rose (real self.old.table.items self.old.faults self.old.print_faults).faults (real self.new.table.items self.new.faults self.new.print_faults).faults }
-    {
-        self.faults = self.faults.saturating_add(1);
-        Failed
-    }
-
-    /// Counts a fault of a read of this file.
-    fn read_fault(&mut self, file: FileNo) -> Failed
-        requires { file.0 < length self.old.table.items }
-        ensures run { Runs (reads_of file.0) (real self.old.table.items self.old.faults self.old.print_faults) (real self.new.table.items self.new.faults self.new.print_faults) }
-        ensures rose { Rose (real self.old.table.items self.old.faults self.old.print_faults).faults (real self.new.table.items self.new.faults self.new.print_faults).faults }
-        ensures read { Rose ((real self.old.table.items self.old.faults self.old.print_faults).read_faults file.0) ((real self.new.table.items self.new.faults self.new.print_faults).read_faults file.0) }
-    {
-        self.faults = self.faults.saturating_add(1);
-        let opened = &mut self.table[file.0 as usize];
-        opened.read_faults = opened.read_faults.saturating_add(1);
-        Failed
-    }
-
-    /// Counts a fault of a write or a sync of this file.
-    fn write_fault(&mut self, file: FileNo) -> Failed
-        requires { file.0 < length self.old.table.items }
-        ensures run { Runs (writes_of file.0) (real self.old.table.items self.old.faults self.old.print_faults) (real self.new.table.items self.new.faults self.new.print_faults) }
-        ensures rose { Rose (real self.old.table.items self.old.faults self.old.print_faults).faults (real self.new.table.items self.new.faults self.new.print_faults).faults }
-        ensures wrote { Rose ((real self.old.table.items self.old.faults self.old.print_faults).write_faults file.0) ((real self.new.table.items self.new.faults self.new.print_faults).write_faults file.0) }
-    {
-        self.faults = self.faults.saturating_add(1);
-        let opened = &mut self.table[file.0 as usize];
-        opened.write_faults = opened.write_faults.saturating_add(1);
-        Failed
-    }
-
-    /// Counts a fault of a print.
-    fn print_fault(&mut self) -> Failed
-        ensures run { Runs only_text (real self.old.table.items self.old.faults self.old.print_faults) (real self.new.table.items self.new.faults self.new.print_faults) }
-        ensures rose { Rose (real self.old.table.items self.old.faults self.old.print_faults).faults (real self.new.table.items self.new.faults self.new.print_faults).faults }
-        ensures printed { Rose (real self.old.table.items self.old.faults self.old.print_faults).print_faults (real self.new.table.items self.new.faults self.new.print_faults).print_faults }
-    {
-        self.faults = self.faults.saturating_add(1);
-        self.print_faults = self.print_faults.saturating_add(1);
-        Failed
-    }
-
-    /// The number of this name in the table.
-    fn number_of(&self, name: &str) -> Option<FileNo>
-        ensures { IfSome result (λ f. IsGiven f.0 name.now (real self.now.table.items self.now.faults self.now.print_faults)) }
-    {
-        for (index, opened) in self.table.iter().enumerate() {
-            if opened.name.as_str() == name {
-                return match u32::try_from(index) {
-                    Ok(number) => Some(FileNo(number)),
-                    Err(_) => None,
-                };
+    /// Removes the files that were made and never synced.
+    fn remove_blanks(&self) {
+        for opened in &self.table.entries {
+            if !opened.opening.lasts {
+                files::remove(&self.rt, opened.name.as_str(), &opened.opening.file);
             }
         }
-        None
-    }
-
-    /// Puts an open file at the end of the table.
-    fn add(&mut self, file: File, name: &str) -> Result<FileNo, Failed>
-        ensures run { Runs nothing (real self.old.table.items self.old.faults self.old.print_faults) (real self.new.table.items self.new.faults self.new.print_faults) }
-        ensures given { IfOk result (λ f. IsGiven f.0 name.now (real self.new.table.items self.new.faults self.new.print_faults)) }
-        ensures cause { OnErr result (Rose (real self.old.table.items self.old.faults self.old.print_faults).faults (real self.new.table.items self.new.faults self.new.print_faults).faults) }
-    {
-        let Ok(number) = u32::try_from(self.table.len()) else {
-            return Err(self.fault());
-        };
-        let Ok(name) = String::from_str(self.alloc, name) else {
-            return Err(self.fault());
-        };
-        let opened = Opened {
-            file,
-            name,
-            read_faults: 0,
-            write_faults: 0,
-        };
-        match self.table.push(opened) {
-            Ok(()) => Ok(FileNo(number)),
-            Err(_) => Err(self.fault()),
-        }
     }
 }
 
-/// The file, at a number above those of the standard streams: where one of these is closed, what is meant for it
-/// must not land in the file.
-fn above_streams(file: File) -> io::Result<File> {
-    if file.as_raw_fd() > LAST_STREAM {
-        return Ok(file);
+impl<R: Files<File = File> + Print + Drop> Drop for RealDepot<R> {
+    fn drop(self) {
+        self.remove_blanks();
+        let RealDepot {
+            rt: _,
+            alloc: _,
+            table: _,
+        } = self;
     }
-    file.try_clone()
-}
-
-/// Opens a file that is there, to read it alone where it may not be written.
-fn open<R: Files<File = File>>(rt: &R, name: &str) -> io::Result<File> {
-    match OpenOptions::new().read(true).write(true).open(rt, name) {
-        Ok(file) => above_streams(file),
-        Err(error) => match error.kind() {
-            ErrorKind::PermissionDenied | ErrorKind::ReadOnlyFilesystem => {
-                above_streams(fs::open(rt, name)?)
-            }
-            _ => Err(error),
-        },
-    }
-}
-
-/// Makes a file, and waits until a crash leaves it.
-fn create<R: Files<File = File>>(rt: &R, name: &str) -> io::Result<File> {
-    let file = above_streams(File::create_new(rt, name)?)?;
-    file.sync_all()?;
-    let folder = match Path::new(name).parent() {
-        Some(parent) => parent.as_str(),
-        None => "",
-    };
-    let folder = if folder.is_empty() { "." } else { folder };
-    fs::open(rt, folder)?.sync_all()?;
-    Ok(file)
-}
-
-/// Fills the buffer with what the file has from here on, and with zeros past its end.
-fn read_whole(file: &File, at: u64, out: &mut [u8]) -> Result<(), Failed>
-    requires { at + length out.old ≤ 2 ^ 62 }
-{
-    let mut done = 0;
-    for _ in 0..u64::MAX {
-        if done >= out.len() {
-            return Ok(());
-        }
-        match file.read_at(&mut out[done..], at + done as u64) {
-            Ok(0) => {
-                out[done..].fill(0);
-                return Ok(());
-            }
-            Ok(count) => done += count,
-            Err(error) if error.kind() == ErrorKind::Interrupted => {}
-            Err(_) => return Err(Failed),
-        }
-    }
-    Err(Failed)
-}
-
-/// Writes all of the bytes from here on.
-fn write_whole(file: &File, at: u64, bytes: &[u8]) -> Result<(), Failed>
-    requires { at + length bytes.now ≤ 2 ^ 62 }
-{
-    let mut done = 0;
-    for _ in 0..u64::MAX {
-        if done >= bytes.len() {
-            return Ok(());
-        }
-        match file.write_at(&bytes[done..], at + done as u64) {
-            Ok(0) => return Err(Failed),
-            Ok(count) => done += count,
-            Err(error) if error.kind() == ErrorKind::Interrupted => {}
-            Err(_) => return Err(Failed),
-        }
-    }
-    Err(Failed)
 }
 
 /// Prints all of the bytes.
@@ -235,65 +69,66 @@ fn print_whole(rt: &impl Print, bytes: &[u8]) -> Result<(), Failed> {
 }
 
 impl<R: Files<File = File> + Print + Drop> Outside for RealDepot<R> {
-    ghost world = { λ s. real s.table.items s.faults s.print_faults };
+    ghost world = { λ s. real s.table };
 }
 
 impl<R: Files<File = File> + Print + Drop> Console for RealDepot<R> {
     fn print(&mut self, text: &[u8]) -> Result<(), Failed> {
         match print_whole(&self.rt, text) {
             Ok(()) => Ok(()),
-            Err(_) => Err(self.print_fault()),
+            Err(_) => Err(self.table.print_fault()),
         }
     }
 }
 
 impl<R: Files<File = File> + Print + Drop> Depot for RealDepot<R> {
-    ghost sound = { λ s. real_sound s.table.items s.faults s.print_faults };
+    ghost sound = { λ s. real_sound s.table };
 
+    /// A file that is open by another name fails: two numbers would stand for one file.
     fn find(&mut self, name: &str) -> Result<Option<FileNo>, Failed> {
-        if let Some(file) = self.number_of(name) {
+        if let Some(file) = self.table.number_of(name) {
             return Ok(Some(file));
         }
-        match open(&self.rt, name) {
-            Ok(file) => Ok(Some(self.add(file, name)?)),
+        match files::open(&self.rt, name) {
+            Ok(opening) if self.table.has(opening.node) => Err(self.table.fault()),
+            Ok(opening) => {
+                let (file, name) = self.table.reserve(self.alloc, name)?;
+                self.table.add(opening, name);
+                Ok(Some(file))
+            }
             Err(error) if error.kind() == ErrorKind::NotFound => Ok(None),
-            Err(_) => Err(self.fault()),
+            Err(_) => Err(self.table.fault()),
         }
     }
 
     fn make(&mut self, name: &str) -> Result<Made, Failed> {
-        match create(&self.rt, name) {
-            Ok(file) => Ok(Made::New(self.add(file, name)?)),
+        if self.table.number_of(name).is_some() {
+            return Ok(Made::Exists);
+        }
+        let (file, text) = self.table.reserve(self.alloc, name)?;
+        match files::create(&self.rt, name) {
+            Ok(opening) => {
+                self.table.add(opening, text);
+                Ok(Made::New(file))
+            }
             Err(error) if error.kind() == ErrorKind::AlreadyExists => Ok(Made::Exists),
-            Err(_) => Err(self.fault()),
+            Err(_) => Err(self.table.fault()),
         }
     }
 
     fn size(&mut self, file: FileNo) -> Result<u64, Failed> {
-        match self.table[file.0 as usize].file.metadata() {
-            Ok(found) => Ok(found.len()),
-            Err(_) => Err(self.read_fault(file)),
-        }
+        self.table.size(file)
     }
 
     fn read_at(&mut self, file: FileNo, at: u64, out: &mut [u8]) -> Result<(), Failed> {
-        match read_whole(&self.table[file.0 as usize].file, at, out) {
-            Ok(()) => Ok(()),
-            Err(_) => Err(self.read_fault(file)),
-        }
+        self.table.read_at(file, at, out)
     }
 
     fn write_at(&mut self, file: FileNo, at: u64, bytes: &[u8]) -> Result<(), Failed> {
-        match write_whole(&self.table[file.0 as usize].file, at, bytes) {
-            Ok(()) => Ok(()),
-            Err(_) => Err(self.write_fault(file)),
-        }
+        self.table.write_at(file, at, bytes)
     }
 
     fn sync(&mut self, file: FileNo) -> Result<(), Failed> {
-        match self.table[file.0 as usize].file.sync_data() {
-            Ok(()) => Ok(()),
-            Err(_) => Err(self.write_fault(file)),
-        }
+        self.table.sync(file)
     }
 }

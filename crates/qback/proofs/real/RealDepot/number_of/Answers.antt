@@ -1,7 +1,0 @@
-use Rattle.std.specs.Cmp.Lexicographic.{same_text}
-use Rattle.qback.proofs.Table.{found_at}
-use Rattle.qback.proofs.real.RealDepot.number_of.Goals as goal
-
-pub returns-in-Ok : goal.returns-in-Ok
-returns-in-Ok g c = found_at _ _ c.loop-index.index c.in-Ok.number c.opened-item.result c.as_str.result.now _ _ _ c.deref-opened-items.ensures.value c.loop-index-test.true c.opened-item.is c.in-Ok.ensures.1 c.as_str.ensures.value
-    (same_text _ _ c.if-eq.ensures)
