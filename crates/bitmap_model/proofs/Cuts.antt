@@ -1,15 +1,13 @@
 -- The first of the greatest runs in a range, and the runs after it.
-use Rattle.std.proofs.Common.{◌≡◌, ◌≢◌, ℕ, zero, suc, ◌+◌, ◌-◌, ◌*◌, ◌/◌, ◌<◌, ◌≤◌, min, Bool, true, false, cond, List, [], ◌∷◌, length, get_or, drop, take, ◌++◌, inl, inr, refl, sym, ap, subst, ◌∙◌, arith}
-use Rattle.std.specs.Prelude.{◌==◌, nat_lt}
+use Rattle.std.proofs.lemmas.Grind.{common_steps}
+use Rattle.std.proofs.Common.{rules, ◌≡◌, ◌≢◌, ℕ, zero, suc, ◌+◌, ◌-◌, ◌*◌, ◌/◌, ◌<◌, ◌≤◌, min, Bool, true, false, cond, List, [], ◌∷◌, length, get_or, drop, take, ◌++◌, inl, inr, refl, sym, ap, subst, ◌∙◌, arith, length-drop}
 use Rattle.std.proofs.lemmas.Nat.{mul-le}
-use Rattle.std.proofs.lemmas.Bool.{cases_lt, lt-ltb, le-ltb, cond-true, cond-false, eq-eqb, ne_eqb}
+use Rattle.std.proofs.lemmas.Bool.{cases_lt, cond-true, eq-eqb}
 use Rattle.span_algebra.specs.declared.lists.Run.{Run}
 use Rattle.span_algebra.specs.Timelines.{Extent}
 use Rattle.span_algebra.specs.Spans.{granule}
 use Rattle.bitmap_model.specs.Runs.{between, shared, parts_of, put_in_front, joined, runs_of, dirty_flags, dirty_runs}
-use Rattle.std.proofs.lemmas.List.{get_or-map, get_or-drop, length-map, drop-drop, append_assoc, append-nil}
-use Rattle.std.proofs.Math.Seq.{take-nil}
-use Rattle.std.proofs.Common.{length-drop}
+use Rattle.std.proofs.lemmas.List.{get_or-drop, length-map, drop-drop, append_assoc}
 use Rattle.bitmap_model.specs.Granules.{GranuleSet, IsShaped, is_in, granules_in}
 use Rattle.bitmap_model.proofs.Places.{granularity-least, granule_from, granule_to, begins_after, past_end}
 
@@ -17,19 +15,12 @@ use Rattle.bitmap_model.proofs.Places.{granularity-least, granule_from, granule_
 abbrev pub part : ℕ → Extent → ℕ → ℕ → Run
 part g e k flag = record { length = shared e (granule g k); flags = flag }
 
-pub parts-some : (g : ℕ) (e : Extent) (k flag : ℕ) (flags : List ℕ) → 0 < shared e (granule g k)
-    → parts_of g e k (flag ∷ flags) ≡ part g e k flag ∷ parts_of g e (k + 1) flags
-parts-some g e k flag flags some =
-    cond-true (nat_lt 0 (shared e (granule g k))) (part g e k flag ∷ parts_of g e (k + 1) flags) (parts_of g e (k + 1) flags) (lt-ltb 0 (shared e (granule g k)) some)
-
 pub parts-none : (g : ℕ) (e : Extent) (k flag : ℕ) (flags : List ℕ) → shared e (granule g k) ≡ 0 → parts_of g e k (flag ∷ flags) ≡ parts_of g e (k + 1) flags
-parts-none g e k flag flags none =
-    cond-false (nat_lt 0 (shared e (granule g k))) (part g e k flag ∷ parts_of g e (k + 1) flags) (parts_of g e (k + 1) flags)
-    (le-ltb 0 (shared e (granule g k)) (omega arith))
+parts-none g e k flag flags none = search rules
 
 -- granules that end before the range have nothing of it
 skipped : (g : ℕ) (e : Extent) (flags : List ℕ) (k m j : ℕ) → j ≡ k + m → j * g ≤ e.at → parts_of g e k flags ≡ parts_of g e j (drop m flags)
-skipped g e flags k zero j sum before = ap (λ (i : ℕ). parts_of g e i flags) (omega arith)
+skipped g e flags k zero j sum before = search rules
 skipped g e [] k (suc m) j sum before = refl
 skipped g e (flag ∷ flags) k (suc m) j sum before =
     let ends : (k + 1) * g ≤ j * g = mul-le (k + 1) g j g (omega arith) (omega arith) in
@@ -38,109 +29,40 @@ skipped g e (flag ∷ flags) k (suc m) j sum before =
 -- nor have those that begin after it
 none_past : (g : ℕ) (e : Extent) (flags : List ℕ) (k : ℕ) → e.at + e.size ≤ k * g → parts_of g e k flags ≡ []
 none_past g e [] k past = refl
-none_past g e (flag ∷ flags) k past =
-    parts-none g e k flag flags (omega arith) ∙ none_past g e flags (k + 1) (omega arith)
+none_past g e (flag ∷ flags) k past = grind (arith, common_steps, parts-none, none_past g e flags (k + 1))
 
 none_of_empty : (g : ℕ) (e : Extent) (flags : List ℕ) (k : ℕ) → e.size ≡ 0 → parts_of g e k flags ≡ []
 none_of_empty g e [] k empty = refl
-none_of_empty g e (flag ∷ flags) k empty =
-    parts-none g e k flag flags (omega arith) ∙ none_of_empty g e flags (k + 1) empty
+none_of_empty g e (flag ∷ flags) k empty = grind (arith, common_steps, parts-none, none_of_empty g e flags (k + 1))
 
 -- granules that begin in a range have the same of it wherever it begins before them
 same_later : (g from later end : ℕ) (flags : List ℕ) (k : ℕ) → from ≤ end → later ≤ end → from ≤ k * g → later ≤ k * g
     → parts_of g (between from end) k flags ≡ parts_of g (between later end) k flags
 same_later g from later end [] k fits fit a b = refl
-same_later g from later end (flag ∷ flags) k fits fit a b =
-    let same : shared (between from end) (granule g k) ≡ shared (between later end) (granule g k) = omega arith in
-    let more : parts_of g (between from end) (k + 1) flags ≡ parts_of g (between later end) (k + 1) flags =
-    same_later g from later end flags (k + 1) fits fit (omega arith) (omega arith) in
-    let choice : ℕ → List Run → List Run = λ n rest. cond_list n flag rest in
-    ap (λ (n : ℕ). choice n (parts_of g (between from end) (k + 1) flags)) same
-    ∙ ap (choice (shared (between later end) (granule g k))) more
-  where
-    cond_list : ℕ → ℕ → List Run → List Run
-    cond_list n flag rest = cond (nat_lt 0 n) (record { length = n; flags = flag } ∷ rest) rest
-
-apart_from : (r s : Run) (b : Bool) (one other : List Run) → (r.flags ≡ s.flags → ⊥)
-    → (n : ℕ) → put_in_front r (cond b (record { length = n; flags = s.flags } ∷ one) (s ∷ other)) ≡ r ∷ cond b (record { length = n; flags = s.flags } ∷ one) (s ∷ other)
-apart_from r s true one other apart n =
-    cond-false (r.flags == s.flags) (record { length = r.length + n; flags = r.flags } ∷ one) (r ∷ record { length = n; flags = s.flags } ∷ one) (ne_eqb r.flags s.flags apart)
-apart_from r s false one other apart n =
-    cond-false (r.flags == s.flags) (record { length = r.length + s.length; flags = r.flags } ∷ other) (r ∷ s ∷ other) (ne_eqb r.flags s.flags apart)
+same_later g from later end (flag ∷ flags) k fits fit a b = grind (arith, common_steps, same_later g from later end flags (k + 1))
 
 -- a run with other flags than the next stays apart
 put_apart : (r s : Run) (runs : List Run) → (r.flags ≡ s.flags → ⊥) → put_in_front r (put_in_front s runs) ≡ r ∷ put_in_front s runs
-put_apart r s [] apart = cond-false (r.flags == s.flags) (record { length = r.length + s.length; flags = r.flags } ∷ []) (r ∷ s ∷ []) (ne_eqb r.flags s.flags apart)
-put_apart r s (t ∷ runs) apart = apart_from r s (s.flags == t.flags) runs (t ∷ runs) apart (s.length + t.length)
+put_apart r s [] apart = search rules
+put_apart r s (t ∷ runs) apart = search rules
 
 -- where a range ends in its first granule, that is all
 ending : (g from end f x : ℕ) (flags more : List ℕ) (k j : ℕ) → k * g ≤ from → from < k * g + g → from < end → end ≤ k * g + g → k * g + g ≤ j * g → x ≡ f
     → joined (parts_of g (between from end) k (x ∷ flags))
     ≡ record { length = min end (j * g) - from; flags = f } ∷ joined (parts_of g (between (min end (j * g)) end) j more)
-ending g from end f x flags more k j a b c last far is =
-    let none : parts_of g (between from end) (k + 1) flags ≡ [] = none_past g (between from end) flags (k + 1) (omega arith) in
-    let size : shared (between from end) (granule g k) ≡ min end (j * g) - from = omega arith in
-    let rest : parts_of g (between (min end (j * g)) end) j more ≡ [] = none_of_empty g (between (min end (j * g)) end) more j (omega arith) in
-    let whole : List Run = joined (parts_of g (between (min end (j * g)) end) j more) in
-    let nothing : whole ≡ [] = ap joined rest in
-    let front : joined (parts_of g (between from end) k (x ∷ flags)) ≡ put_in_front (part g (between from end) k x) (joined (parts_of g (between from end) (k + 1) flags)) =
-    ap joined (parts-some g (between from end) k x flags (omega arith)) in
-    let alone : put_in_front (part g (between from end) k x) (joined (parts_of g (between from end) (k + 1) flags)) ≡ part g (between from end) k x ∷ [] =
-    ap (λ (p : List Run). put_in_front (part g (between from end) k x) (joined p)) none in
-    let sized : part g (between from end) k x ∷ [] ≡ record { length = min end (j * g) - from; flags = x } ∷ [] =
-    ap (λ (n : ℕ). record { length = n; flags = x } ∷ []) size in
-    let flagged : List Run = record { length = min end (j * g) - from; flags = f } ∷ [] in
-    let same : record { length = min end (j * g) - from; flags = x } ∷ [] ≡ flagged = ap (λ (y : ℕ). record { length = min end (j * g) - from; flags = y } ∷ []) is in
-    front ∙ (alone ∙ (sized ∙ (same ∙ ap (λ (p : List Run). record { length = min end (j * g) - from; flags = f } ∷ p) (sym nothing))))
-
--- where it goes on, its part in the first granule stands before the runs of the rest
-going : (g from end x : ℕ) (flags : List ℕ) (k : ℕ) → k * g ≤ from → from < k * g + g → k * g + g < end
-    → joined (parts_of g (between from end) k (x ∷ flags))
-    ≡ put_in_front (record { length = k * g + g - from; flags = x }) (joined (parts_of g (between (k * g + g) end) (k + 1) flags))
-going g from end x flags k a b more =
-    let later : parts_of g (between from end) (k + 1) flags ≡ parts_of g (between (k * g + g) end) (k + 1) flags =
-    same_later g from (k * g + g) end flags (k + 1) (omega arith) (omega arith) (omega arith) (omega arith) in
-    let size : shared (between from end) (granule g k) ≡ k * g + g - from = omega arith in
-    let front : joined (parts_of g (between from end) k (x ∷ flags)) ≡ put_in_front (part g (between from end) k x) (joined (parts_of g (between from end) (k + 1) flags)) =
-    ap joined (parts-some g (between from end) k x flags (omega arith)) in
-    let next : put_in_front (part g (between from end) k x) (joined (parts_of g (between from end) (k + 1) flags))
-    ≡ put_in_front (part g (between from end) k x) (joined (parts_of g (between (k * g + g) end) (k + 1) flags)) =
-    ap (λ (p : List Run). put_in_front (part g (between from end) k x) (joined p)) later in
-    front ∙ (next ∙ ap (λ (n : ℕ). put_in_front (record { length = n; flags = x }) (joined (parts_of g (between (k * g + g) end) (k + 1) flags))) size)
+ending g from end f x flags more k j a b c last far is = grind (arith, common_steps, none_past, none_of_empty)
 
 -- another flag in the next granule
 stopping : (g from end f x y : ℕ) (flags : List ℕ) (k j : ℕ) → 0 < g → j ≡ k + 1 → k * g ≤ from → from < k * g + g → k * g + g < end → x ≡ f → (y ≡ f → ⊥)
     → joined (parts_of g (between from end) k (x ∷ y ∷ flags))
     ≡ record { length = min end (j * g) - from; flags = f } ∷ joined (parts_of g (between (min end (j * g)) end) j (y ∷ flags))
-stopping g from end f x y flags k j some next a b more is other =
-    let first : Run = record { length = k * g + g - from; flags = x } in
-    let e : Extent = between (k * g + g) end in
-    let there : joined (parts_of g e (k + 1) (y ∷ flags)) ≡ put_in_front (part g e (k + 1) y) (joined (parts_of g e (k + 1 + 1) flags)) =
-    ap joined (parts-some g e (k + 1) y flags (omega arith)) in
-    let apart : x ≡ y → ⊥ = λ (same : x ≡ y). other (sym same ∙ is) in
-    let product : j * g ≡ k * g + g = ap (λ (n : ℕ). n * g) next ∙ omega arith in
-    let past : min end (j * g) ≡ k * g + g = omega arith in
-    going g from end x (y ∷ flags) k a b more
-    ∙ (ap (put_in_front first) there
-    ∙ (put_apart first (part g e (k + 1) y) (joined (parts_of g e (k + 1 + 1) flags)) apart
-    ∙ (ap (λ (p : List Run). first ∷ p) (sym there)
-    ∙ (ap (λ (v : ℕ). record { length = k * g + g - from; flags = v } ∷ joined (parts_of g e (k + 1) (y ∷ flags))) is
-    ∙ (ap (λ (i : ℕ). record { length = k * g + g - from; flags = f } ∷ joined (parts_of g e i (y ∷ flags))) (sym next)
-    ∙ ap (λ (p : ℕ). record { length = p - from; flags = f } ∷ joined (parts_of g (between p end) j (y ∷ flags))) (sym past))))))
+stopping g from end f x y flags k j some next a b more is other = grind (arith, common_steps, put_apart, same_later)
 
 -- the same flag in the next granule
 keeping : (g from end f x past : ℕ) (flags : List ℕ) (k : ℕ) (rest : List Run) → k * g ≤ from → from < k * g + g → k * g + g < end → k * g + g ≤ past → x ≡ f
     → joined (parts_of g (between (k * g + g) end) (k + 1) flags) ≡ record { length = past - (k * g + g); flags = f } ∷ rest
     → joined (parts_of g (between from end) k (x ∷ flags)) ≡ record { length = past - from; flags = f } ∷ rest
-keeping g from end f x past flags k rest a b more far is on =
-    let first : Run = record { length = k * g + g - from; flags = x } in
-    let second : Run = record { length = past - (k * g + g); flags = f } in
-    let size : k * g + g - from + (past - (k * g + g)) ≡ past - from = omega arith in
-    going g from end x flags k a b more
-    ∙ (ap (put_in_front first) on
-    ∙ (cond-true (x == f) (record { length = k * g + g - from + (past - (k * g + g)); flags = x } ∷ rest) (first ∷ second ∷ rest) (eq-eqb x f is)
-    ∙ (ap (λ (n : ℕ). record { length = n; flags = x } ∷ rest) size
-    ∙ ap (λ (y : ℕ). record { length = past - from; flags = y } ∷ rest) is)))
+keeping g from end f x past flags k rest a b more far is on = grind (arith, common_steps, cond-true, eq-eqb, same_later)
 
 -- Of a range that begins in granule k the first run goes on to granule j, where all between have one flag and j has another,
 -- or to the range's end.
@@ -149,8 +71,8 @@ first_run : (g from end f : ℕ) → 0 < g → (flags : List ℕ) (k m j : ℕ) 
     → (m < length flags → get_or flags m 0 ≡ f → ⊥)
     → joined (parts_of g (between from end) k flags)
     ≡ record { length = min end (j * g) - from; flags = f } ∷ joined (parts_of g (between (min end (j * g)) end) j (drop m flags))
-first_run g from end f some flags k zero j sum a b c d full fits same other = absurd (omega (arith, full))
-first_run g from end f some [] k (suc m) j sum a b c d full fits same other = absurd (omega (arith, fits))
+first_run g from end f some flags k zero j sum a b c d full fits same other = search rules
+first_run g from end f some [] k (suc m) j sum a b c d full fits same other = search rules
 first_run g from end f some (x ∷ []) k (suc m) j sum a b c d full fits same other =
     let far : (k + 1) * g ≤ j * g = mul-le (k + 1) g j g (omega arith) (omega arith) in
     ending g from end f x [] (drop m []) k j a b c (omega (arith, d)) (omega arith) (same 0 (omega arith))
@@ -170,31 +92,19 @@ first_run g from end f some (x ∷ y ∷ flags) k (suc (suc m)) j sum a b c d fu
           (omega (arith, d)) (omega arith) (omega (arith, fits)) (λ t h. same (suc t) (omega arith)) (λ h. other (omega arith)))
     ]
 
--- in place of the granules before a range all may be looked at
-from_start : (g from end j : ℕ) (flags : List ℕ) → j * g ≤ from → parts_of g (between from end) j (drop j flags) ≡ parts_of g (between from end) 0 flags
-from_start g from end j flags before = sym (skipped g (between from end) flags 0 j j (omega arith) before)
-
 flags_differ : (a b : Bool) → (a ≡ b → ⊥) → ◌≡◌ {A = ℕ} (cond a 1 0) (cond b 1 0) → ⊥
 flags_differ true true apart same = apart refl
-flags_differ true false apart same = absurd (omega (arith, same))
-flags_differ false true apart same = absurd (omega (arith, same))
+flags_differ true false apart same = search rules
+flags_differ false true apart same = search rules
 flags_differ false false apart same = apart refl
 
 flag_at : (set : List Bool) (k : ℕ) → k < length set → get_or (dirty_flags set) k 0 ≡ cond (is_in set k) 1 0
-flag_at set k inside = get_or-map (λ (d : Bool). cond d 1 0) set k false 0 inside
+flag_at set k inside = grind (arith, common_steps)
 
 -- what follows the first run, seen from the first granule on
 rest_of : (g from end k m j : ℕ) (flags : List ℕ) → j ≡ k + m
     → joined (parts_of g (between (min end (j * g)) end) j (drop m (drop k flags))) ≡ joined (parts_of g (between (min end (j * g)) end) 0 flags)
-rest_of g from end k m j flags sum =
-    let dropped : drop m (drop k flags) ≡ drop j flags = drop-drop m k flags ∙ ap (λ (n : ℕ). drop n flags) (omega arith) in
-    elim (cases_lt end (j * g)) [
-      | inl early ↦
-          ap joined (none_of_empty g (between (min end (j * g)) end) (drop m (drop k flags)) j (omega arith)
-          ∙ sym (none_of_empty g (between (min end (j * g)) end) flags 0 (omega arith)))
-      | inr late ↦
-          ap joined (ap (parts_of g (between (min end (j * g)) end) j) dropped ∙ from_start g (min end (j * g)) end j flags (omega arith))
-    ]
+rest_of g from end k m j flags sum = grind (arith, common_steps, drop-drop, cases_lt, none_of_empty, skipped)
 
 flags_first : (set : List Bool) (g from end j : ℕ) (d : Bool) → 0 < g → from < end → end ≤ length set * g → from / g < j → j ≤ length set
     → ((k : ℕ) → from / g ≤ k → k < j → is_in set k ≡ is_in set (from / g)) → (j < length set → is_in set j ≢ is_in set (from / g)) → is_in set (from / g) ≡ d
@@ -243,7 +153,7 @@ dirty_first s g from end j past d shaped is some inside after within same other 
 
 pub dirty_none : (s : GranuleSet) (from end : ℕ) → end ≤ from → dirty_runs s (between from end) ≡ []
 unfolding dirty_runs runs_of
-dirty_none s from end past = ap joined (none_of_empty s.granularity (between from end) (dirty_flags s.set) 0 (omega arith))
+dirty_none s from end past = grind (arith, common_steps, none_of_empty)
 
 -- one more of the first 1,024 runs is appended
 pub runs_more : (old out new whole rest more : List Run) (r : Run) (n : ℕ) → n < 1024 → rest ≡ r ∷ more → new ≡ out ++ r ∷ []
@@ -255,5 +165,4 @@ runs_more old out new whole rest more r n below here pushed so_far =
     ∙ (sym (ap (λ (xs : List Run). out ++ take (1024 - n) xs) here ∙ ap (λ (m : ℕ). out ++ take m (r ∷ more)) next) ∙ so_far))
 
 pub runs_done : (old out whole rest : List Run) (n : ℕ) → rest ≡ [] → out ++ take n rest ≡ old ++ take 1024 whole → out ≡ old ++ take 1024 whole
-runs_done old out whole rest n none so_far =
-    sym (append-nil out) ∙ (sym (ap (λ (xs : List Run). out ++ xs) (ap (take n) none ∙ take-nil n)) ∙ so_far)
+runs_done old out whole rest n none so_far = search rules

@@ -11,5 +11,4 @@ pub mod Stored
 pub mod Copies
 pub mod Lists
 pub mod Faults
-pub mod Effects
 pub mod Totals

@@ -1,13 +1,12 @@
 -- Sets that are made of a test.
-use Rattle.std.proofs.Common.{◌≡◌, ℕ, zero, suc, get_or, ◌+◌, ◌<◌, Bool, true, false, List, [], ◌∷◌, ◌++◌, length, inl, inr, refl, ◌∙◌, arith}
+use Rattle.std.proofs.lemmas.Grind.{common_steps}
+use Rattle.std.proofs.Common.{rules, ◌≡◌, ℕ, zero, suc, get_or, ◌+◌, ◌<◌, Bool, true, false, List, [], ◌∷◌, ◌++◌, length, refl, ◌∙◌, arith}
 use Rattle.std.proofs.lemmas.List.FromFn.{get_or-map-range_with_len, length-map-range_with_len, fill_by_all, map-range_with_len_more}
-use Rattle.std.proofs.lemmas.List.{get_or_past}
-use Rattle.std.proofs.lemmas.Bool.{cases_lt, both_ways}
 use Rattle.bitmap_model.specs.Granules.{set_of, is_in}
 
 pub is_in-set_of : (n : ℕ) (test : ℕ → Bool) (k : ℕ) → k < n → is_in (set_of n test) k ≡ test k
 unfolding set_of
-is_in-set_of n test k below = get_or-map-range_with_len test 0 n k k false below (omega arith)
+is_in-set_of n test k below = grind (arith, common_steps, get_or-map-range_with_len)
 
 pub length-set_of : (n : ℕ) (test : ℕ → Bool) → length (set_of n test) ≡ n
 unfolding set_of
@@ -29,17 +28,11 @@ pub set_of_more : (n : ℕ) (test : ℕ → Bool) → set_of (n + 1) test ≡ se
 unfolding set_of
 set_of_more n test = map-range_with_len_more test 0 n n (omega arith)
 
-pub is_in_past : (set : List Bool) (k : ℕ) → length set < k + 1 → is_in set k ≡ false
-is_in_past set k past = get_or_past set k false (omega arith)
-
 pub in_length : (set : List Bool) (k : ℕ) → is_in set k ≡ true → k < length set
-in_length set k here = elim (cases_lt k (length set)) [
-  | inl below ↦ below
-  | inr past ↦ absurd (both_ways (is_in set k) (get_or_past set k false past) here)
-]
+in_length set k here = grind (arith, common_steps)
 
 -- within a list the default doesn't matter
 pub get_or-any : (set : List Bool) (k : ℕ) (a b : Bool) → k < length set → get_or set k b ≡ get_or set k a
-get_or-any [] k a b inside = absurd (omega (arith, inside))
+get_or-any [] k a b inside = search rules
 get_or-any (x ∷ set) zero a b inside = refl
-get_or-any (x ∷ set) (suc k) a b inside = get_or-any set k a b (omega (arith, inside))
+get_or-any (x ∷ set) (suc k) a b inside = grind (arith, common_steps)

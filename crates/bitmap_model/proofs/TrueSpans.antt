@@ -1,20 +1,20 @@
 -- What each change does to a bitmap's true span.
-use Rattle.std.proofs.Common.{◌≡◌, ℕ, ◌+◌, ◌≤◌, Bool, true, false, List, inl, inr, sym, subst}
+use Rattle.std.proofs.lemmas.Grind.{common_steps}
+use Rattle.std.proofs.Common.{arith, ◌≡◌, ℕ, ◌+◌, ◌≤◌, Bool, true, false, List, inl, inr, sym, subst}
 use Rattle.std.specs.Prelude.{IsTrue}
-use Rattle.std.proofs.lemmas.Bool.{cond_both}
 use Rattle.span_algebra.specs.declared.points.Point.{Point}
 use Rattle.span_algebra.specs.declared.points.End.TheVariants.{Now, At}
 use Rattle.span_algebra.specs.declared.spans.Span.{Span}
 use Rattle.span_algebra.specs.declared.spans.Base.TheVariants.{Since}
 use Rattle.span_algebra.specs.Timelines.{Extent, Timeline, with_write, with_point, IsRising, stands}
-use Rattle.span_algebra.specs.Spans.{that_pass, AllTouched, SpanHolds, SpanIsTrue, after_clear, after_disable, after_enable}
+use Rattle.span_algebra.specs.Spans.{that_pass, AllTouched, SpanHolds, SpanIsTrue, after_clear}
 use Rattle.span_algebra.proofs.Growth.{larger, write_keeps, point_keeps}
 use Rattle.span_algebra.proofs.LastPoint.{clear_makes, disable_keeps, enable_keeps, abdication_makes, base_holds}
 use Rattle.span_algebra.proofs.Merging.{merge_keeps}
 use Rattle.bitmap_model.specs.Bitmap.{BitmapState, IsTrueBitmap, IsShapedBitmap, is_busy, covers, successor_has, new_bitmap, when_written, when_cleared, when_enabled, when_disabled, when_merged, when_frozen, when_abdicated, when_reclaimed, base_at}
 use Rattle.bitmap_model.specs.BitmapLaws.{IsRecordedToNow, SuccessorCovers}
 use Rattle.bitmap_model.proofs.Writes.{written_span}
-use Rattle.bitmap_model.proofs.Covers.{written_covers_own, written_covers_range, written_successor_own, written_successor_range, merging_covers_own, merging_covers_source, frozen_covers, reclaimed_covers, abdicated_covers}
+use Rattle.bitmap_model.proofs.Covers.{written_covers_own, written_covers_range, written_successor_own, written_successor_range, merging_covers_own, merging_covers_source, reclaimed_covers, abdicated_covers}
 
 -- ---- changes at the last point
 
@@ -28,15 +28,11 @@ cleared_is_true h p b rising = clear_makes h p b.recording (that_pass (covers (w
 
 pub enabled_keeps_true : (h : Timeline) (p : Point) (b : BitmapState) → IsRising (with_point h p) → IsTrueBitmap (with_point h p) b
     → IsTrueBitmap (with_point h p) (when_enabled p b)
-enabled_keeps_true h p b rising t =
-    cond_both b.recording b (record b { recording = true; span = after_enable b.span p }) (IsTrueBitmap (with_point h p)) (λ on. t)
-    (λ off. enable_keeps h p b.span (that_pass (covers b)) rising t)
+enabled_keeps_true h p b rising t = grind (arith, common_steps, enable_keeps)
 
 pub disabled_keeps_true : (h : Timeline) (p : Point) (b : BitmapState) → IsRising (with_point h p) → IsTrueBitmap (with_point h p) b
     → IsTrueBitmap (with_point h p) (when_disabled p b)
-disabled_keeps_true h p b rising t =
-    cond_both b.recording (record b { recording = false; span = after_disable b.span p }) b (IsTrueBitmap (with_point h p))
-    (λ on. disable_keeps h p b.span (that_pass (covers b)) rising t) (λ off. t)
+disabled_keeps_true h p b rising t = grind (arith, common_steps, disable_keeps)
 
 pub merged_keeps_true : (h : Timeline) (p : Point) (size : ℕ) (source b : BitmapState) → IsRising (with_point h p) → IsShapedBitmap size source
     → IsShapedBitmap size b → is_busy source ≡ false → IsTrueBitmap (with_point h p) source → IsTrueBitmap (with_point h p) b
@@ -59,10 +55,10 @@ written_keeps_true h e size b shaped inside recorded t =
     (write_keeps h e b.span (that_pass (covers (when_written e b))) (λ now x low high. written_covers_range size e b x shaped inside (recorded now) low high) grown)
 
 pub further_point_keeps_true : (h : Timeline) (q : Point) (b : BitmapState) → IsTrueBitmap h b → IsTrueBitmap (with_point h q) b
-further_point_keeps_true h q b t = point_keeps h q b.span (that_pass (covers b)) t
+further_point_keeps_true h q b t = grind (arith, common_steps, point_keeps)
 
 pub frozen_keeps_true : (h : Timeline) (b : BitmapState) → is_busy b ≡ false → IsTrueBitmap h b → IsTrueBitmap h (when_frozen b)
-frozen_keeps_true h b idle t = larger h b.span (that_pass (covers b)) (that_pass (covers (when_frozen b))) (λ x here. frozen_covers b x idle here) t
+frozen_keeps_true h b idle t = grind (arith, common_steps, larger)
 
 pub reclaimed_keeps_true : (h : Timeline) (size : ℕ) (b : BitmapState) → IsShapedBitmap size b → IsTrueBitmap h b → IsTrueBitmap h (when_reclaimed b)
 reclaimed_keeps_true h size b shaped t =

@@ -9,51 +9,61 @@ pub fn meeting_is_overlap()
 {}
 
 /// A marked set has what it had, and each granule that meets the range.
+#[tactic(auto, using(crate::proofs::Covering::sets_tell))]
 pub fn marked_tells()
     ensures { MarkedTells }
 {}
 
 /// Marking keeps a set in shape.
+#[tactic(auto, using(crate::proofs::Covering::sets_tell))]
 pub fn marking_keeps_shape()
     ensures { MarkingKeepsShape }
 {}
 
 /// A marked set covers each byte of the range.
+#[tactic(auto, using(crate::proofs::Covering::sets_cover))]
 pub fn marking_covers()
     ensures { MarkingCovers }
 {}
 
 /// A merged set has what it had, each granule that meets one of the other set, and no more.
+#[tactic(auto, using(crate::proofs::Covering::sets_cover))]
 pub fn merged_tells()
     ensures { MergedTells }
 {}
 
 /// Merging keeps a set in shape.
+#[tactic(auto, using(crate::proofs::Covering::sets_tell))]
 pub fn merging_keeps_shape()
     ensures { MergingKeepsShape }
 {}
 
 /// A merged set covers each byte that it or the other covered.
+#[tactic(auto, using(crate::proofs::Covering::sets_cover))]
 pub fn merging_covers()
     ensures { MergingCovers }
 {}
 
 /// Where two sets have one granularity, merging gives their union.
+#[tactic(auto, using(crate::proofs::Covering::sets_cover))]
 pub fn merging_like_unites()
     ensures { MergingLikeUnites }
 {}
 
 /// The runs of a range have its length.
+#[tactic(auto, using(crate::proofs::Totals::runs_total))]
 pub fn runs_add_up()
     ensures { RunsAddUp }
 {}
 
 /// No run of a range is empty, and neighbours have different flags.
+#[tactic(auto, using(crate::proofs::Totals::runs_greatest))]
 pub fn runs_are_greatest()
     ensures { RunsAreGreatest }
 {}
 
 /// Each byte of a range stands in a run with the flags of its granule.
+#[tactic(auto, using(crate::proofs::Totals::runs_flags))]
 pub fn runs_tell()
     ensures { RunsTell }
 {}
@@ -79,16 +89,19 @@ pub fn successor_records()
 {}
 
 /// A further point keeps a bitmap's span true.
+#[tactic(auto, using(crate::proofs::TrueSpans::further_point_keeps_true))]
 pub fn point_keeps_bitmap_true()
     ensures { PointKeepsBitmapTrue }
 {}
 
 /// Being taken into use by a job keeps a bitmap's span true.
+#[tactic(auto, using(crate::proofs::TrueSpans::frozen_keeps_true))]
 pub fn freezing_keeps_true()
     ensures { FreezingKeepsTrue }
 {}
 
 /// Reclaim keeps a bitmap's span true at any moment.
+#[tactic(auto, using(crate::proofs::TrueSpans::reclaimed_keeps_true))]
 pub fn reclaiming_keeps_true()
     ensures { ReclaimingKeepsTrue }
 {}
@@ -104,6 +117,7 @@ pub fn shape_is_kept()
 {}
 
 /// Each change leaves a span up to now to bitmaps that are recording alone.
+#[tactic(auto, using(crate::proofs::Recorded::added_keeps_recorded, crate::proofs::Recorded::written_keeps_recorded, crate::proofs::Recorded::cleared_keeps_recorded, crate::proofs::Recorded::enabled_keeps_recorded, crate::proofs::Recorded::disabled_keeps_recorded, crate::proofs::Recorded::merged_keeps_recorded, crate::proofs::Recorded::abdicated_keeps_recorded, crate::proofs::Recorded::reclaimed_keeps_recorded))]
 pub fn recorded_is_kept()
     ensures { RecordedIsKept }
 {}

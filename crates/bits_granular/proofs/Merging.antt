@@ -1,10 +1,11 @@
 -- The granules of another set, put in one after another.
-use Rattle.std.proofs.Common.{◌≡◌, ℕ, zero, suc, ◌+◌, Bool, true, false, ◌&&◌, ◌||◌, List, length, refl, sym, ap, ◌∙◌, arith}
+use Rattle.std.proofs.Common.{◌≡◌, ℕ, zero, suc, ◌+◌, Bool, true, false, ◌&&◌, ◌||◌, List, length, refl, sym, ap, ◌∙◌, arith, rules}
 use Rattle.std.specs.List.{list_any, range_with_len}
 use Rattle.span_algebra.specs.Spans.{granule}
 use Rattle.bitmap_model.specs.Granules.{set_of, is_in, meets, widened, united, GranuleSet, marked, merged}
 use Rattle.bitmap_model.proofs.Sets.{set_of-from, set_of-same, is_in-set_of, length-set_of}
 use Rattle.bits_granular.proofs.Marking.{or_none}
+use Rattle.std.proofs.lemmas.Grind.{common_steps}
 
 -- granule k, of size g, meets one of the first n granules, of size h, of the other set
 abbrev pub meets_below : ℕ → ℕ → List Bool → ℕ → ℕ → Bool
@@ -26,11 +27,8 @@ or_false true = refl
 or_false false = refl
 
 any_more : (p : ℕ → Bool) (a n : ℕ) → list_any p (range_with_len a (suc n)) ≡ (list_any p (range_with_len a n) || p (a + n))
-any_more p a zero = or_false (p a) ∙ ap p (omega arith)
-any_more p a (suc n) =
-    ap (λ (b : Bool). p a || b) (any_more p (a + 1) n)
-    ∙ (or_assoc (p a) (list_any p (range_with_len (a + 1) n)) (p (a + 1 + n))
-    ∙ ap (λ (m : ℕ). (p a || list_any p (range_with_len (a + 1) n)) || p m) (omega arith))
+any_more p a zero = search rules
+any_more p a (suc n) = grind (arith, common_steps, or_assoc, any_more p (a + 1) n)
 
 meets_more : (g h : ℕ) (other : List Bool) (n k : ℕ)
     → meets_below g h other (n + 1) k ≡ (meets_below g h other n k || (is_in other n && meets (granule h n) (granule g k)))
@@ -43,19 +41,11 @@ meets_more g h other n k =
 
 pub merged_none : (s : GranuleSet) (h : ℕ) (other : List Bool) → s ≡ merged_below s h other 0
 unfolding united_below
-merged_none s h other =
-    ap (λ (new : List Bool). record s { set = new })
-    (set_of-from (length s.set) (λ k. is_in s.set k || meets_below s.granularity h other 0 k) s.set refl
-    (λ k _. or_none (is_in s.set k) false refl))
+merged_none s h other = grind (arith, common_steps, set_of-from, or_none)
 
 united_without : (g h : ℕ) (set other : List Bool) (n : ℕ) → is_in other n ≡ false → united_below g set h other n ≡ united_below g set h other (n + 1)
 unfolding united_below
-united_without g h set other n none =
-    set_of-same (length set) (λ k. is_in set k || meets_below g h other n k) (λ k. is_in set k || meets_below g h other (n + 1) k)
-    (λ k _. ap (λ (b : Bool). is_in set k || b)
-    (sym (meets_more g h other n k
-    ∙ (ap (λ (b : Bool). meets_below g h other n k || (b && meets (granule h n) (granule g k))) none
-    ∙ or_false (meets_below g h other n k)))))
+united_without g h set other n none = grind (arith, common_steps, set_of-same, meets_more, or_false)
 
 united_with : (g h : ℕ) (set other : List Bool) (n : ℕ) → is_in other n ≡ true
     → widened g (granule h n) (united_below g set h other n) ≡ united_below g set h other (n + 1)
@@ -72,11 +62,11 @@ united_with g h set other n here =
     (sym (meets_more g h other n k ∙ ap (λ (b : Bool). meets_below g h other n k || (b && meets (granule h n) (granule g k))) here))))
 
 pub merged_without : (s : GranuleSet) (h : ℕ) (other : List Bool) (n : ℕ) → is_in other n ≡ false → merged_below s h other n ≡ merged_below s h other (n + 1)
-merged_without s h other n none = ap (λ (new : List Bool). record s { set = new }) (united_without s.granularity h s.set other n none)
+merged_without s h other n none = grind (arith, common_steps, united_without)
 
 pub merged_with : (s : GranuleSet) (h : ℕ) (other : List Bool) (n : ℕ) → is_in other n ≡ true
     → marked (merged_below s h other n) (granule h n) ≡ merged_below s h other (n + 1)
-merged_with s h other n here = ap (λ (new : List Bool). record s { set = new }) (united_with s.granularity h s.set other n here)
+merged_with s h other n here = grind (arith, common_steps, united_with)
 
 pub merged_all : (s other : GranuleSet) → merged_below s other.granularity other.set (length other.set) ≡ merged s other
 unfolding united_below united

@@ -1,12 +1,13 @@
 -- Bits in bytes.
-use Rattle.std.proofs.Common.{◌≡◌, ◌≢◌, ℕ, ◌+◌, ◌-◌, ◌*◌, ◌/◌, ◌%◌, ◌^◌, ◌<◌, ◌≤◌, true, List, length, get_or, set, inl, inr, sym, ap, ◌∙◌, arith, get_or-set_same, get_or-set_other}
+use Rattle.std.proofs.Common.{◌≡◌, ◌≢◌, ℕ, ◌+◌, ◌-◌, ◌*◌, ◌/◌, ◌%◌, ◌^◌, ◌<◌, ◌≤◌, true, List, length, get_or, set, inl, inr, sym, ap, ◌∙◌, arith, get_or-set_same, get_or-set_other, rules}
 use Rattle.std.specs.Prelude.{◌==◌, bit_or}
 use Rattle.std.specs.Int.{bit_at, w8, trailing_zeros}
-use Rattle.std.proofs.lemmas.Nat.{mod_below, shr-shr, div-mul-add, mod-mul-add, div-add-mod', shr_le}
+use Rattle.std.proofs.lemmas.Nat.{mod_below, shr-shr, div-add-mod', shr_le}
 use Rattle.std.proofs.lemmas.Nat.Bits.{bit_at_set_same, bit_at_set_other, bit_at_above, bit_at-zero, bit_at-trailing_zeros}
 use Rattle.std.proofs.lemmas.Bool.{cases_lt, cases_eq, eq-eqb, eqb-true}
 use Rattle.std.proofs.lemmas.List.{get_or_past}
 use Rattle.bits_granular.specs.Bytes.{bit_of, HasTail}
+use Rattle.std.proofs.lemmas.Grind.{common_steps}
 
 -- the byte with one more bit
 abbrev with_bit : List ℕ → ℕ → List ℕ
@@ -38,9 +39,7 @@ zero_or_one n none one = omega arith
 
 -- bit i of a byte, as a bit of all
 pub bit_of-at : (bytes : List ℕ) (q i : ℕ) → i < 8 → bit_of bytes (q * 8 + i) ≡ (bit_at (get_or bytes q 0) i == 1)
-bit_of-at bytes q i small =
-    ap (λ (p : ℕ). bit_at (get_or bytes p 0) ((q * 8 + i) % 8) == 1) (div-mul-add q 8 i small)
-    ∙ ap (λ (j : ℕ). bit_at (get_or bytes q 0) j == 1) (mod-mul-add q 8 i small)
+bit_of-at bytes q i small = search rules
 
 -- a byte that isn't 0 from bit k on has a bit there, and one that is has none
 one_from : (x k : ℕ) → x < 256 → 0 < x / 2 ^ k → (i : ℕ) × (k ≤ i) × (i < 8) × (bit_at x i ≡ 1)
@@ -77,20 +76,4 @@ tail_in_other bytes n q after small some =
 -- where the byte in which the tail begins has none, a bit of the tail stands in another that isn't 0
 pub tail_elsewhere : (bytes : List ℕ) (n : ℕ) → get_or bytes (n / 8) 0 / 2 ^ (n % 8) ≡ 0 → HasTail n bytes
     → (q : ℕ) × (n / 8 < q) × (q < length bytes) × (get_or bytes q 0 ≢ 0)
-tail_elsewhere bytes n none t =
-    let k : ℕ = t.0 in
-    let one : bit_at (get_or bytes (k / 8) 0) (k % 8) ≡ 1 = eqb-true (bit_at (get_or bytes (k / 8) 0) (k % 8)) 1 t.2 in
-    let some : get_or bytes (k / 8) 0 ≢ 0 = λ (e : get_or bytes (k / 8) 0 ≡ 0). zero_or_one (bit_at (get_or bytes (k / 8) 0) (k % 8)) (ap (λ (x : ℕ). bit_at x (k % 8)) e ∙ bit_at-zero (k % 8)) one in
-    elim (cases_lt (n / 8) (k / 8)) [
-      | inl after ↦
-          elim (cases_lt (k / 8) (length bytes)) [
-            | inl inside ↦ (k / 8, after, inside, some)
-            | inr past ↦ absurd (some (get_or_past bytes (k / 8) 0 past))
-          ]
-      | inr before ↦
-          let same : k / 8 ≡ n / 8 = omega (arith, t.1, div-add-mod' n 8, div-add-mod' k 8, mod_below k 8, mod_below n 8) in
-          let zero : bit_at (get_or bytes (k / 8) 0) (k % 8) ≡ 0 =
-          ap (λ (i : ℕ). bit_at (get_or bytes i 0) (k % 8)) same
-          ∙ none_from (get_or bytes (n / 8) 0) (n % 8) (k % 8) none (omega (arith, t.1, div-add-mod' n 8, div-add-mod' k 8)) in
-          absurd (zero_or_one (bit_at (get_or bytes (k / 8) 0) (k % 8)) zero one)
-    ]
+tail_elsewhere bytes n none t = grind (arith, common_steps, eqb-true, zero_or_one, bit_at-zero, cases_lt, get_or_past, div-add-mod', mod_below, none_from)

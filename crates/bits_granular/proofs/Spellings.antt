@@ -1,47 +1,29 @@
 -- Sets and the bytes that spell them.
-use Rattle.std.proofs.Common.{◌≡◌, ℕ, ◌+◌, ◌*◌, ◌^◌, ◌<◌, Bool, false, List, length, get_or, inl, inr, refl, sym, ap, ◌∙◌, arith}
+use Rattle.std.proofs.Common.{◌≡◌, ℕ, ◌+◌, ◌*◌, ◌^◌, ◌<◌, Bool, List, length, get_or, sym, ◌∙◌, arith, rules}
 use Rattle.std.specs.Prelude.{◌==◌, All}
 use Rattle.std.specs.Int.{bit_at}
 use Rattle.std.proofs.lemmas.Nat.Bits.{same_from_bits_below, bit_at-lt}
-use Rattle.std.proofs.lemmas.Bool.{cases_lt, cases_eq, cases_Bool, both_ways, eq-eqb, eqb-true}
+use Rattle.std.proofs.lemmas.Bool.{cases_lt, cases_Bool}
 use Rattle.std.proofs.lemmas.List.{get_or_past}
-use Rattle.std.proofs.lemmas.Grind.{same_number_lists}
+use Rattle.std.proofs.lemmas.Grind.{same_number_lists, common_steps}
 use Rattle.std.proofs.lemmas.List.Elements.{All-get_or}
 use Rattle.bits_granular.proofs.Octets.{bit_of-at}
-use Rattle.bitmap_model.specs.Granules.{set_of, is_in}
+use Rattle.bitmap_model.specs.Granules.{set_of}
 use Rattle.bits_granular.specs.Bytes.{bit_of, bytes_for, IsSpelling, HasTail}
 use Rattle.bitmap_model.proofs.Sets.{set_of-from, is_in-set_of, length-set_of}
 
 pub reads_back : (set : List Bool) (bytes : List ℕ) → IsSpelling set bytes → set_of (length set) (bit_of bytes) ≡ set
-reads_back set bytes s = sym (set_of-from (length set) (bit_of bytes) set refl (λ k _. sym (s.bits k)))
+reads_back set bytes s = grind (arith, common_steps, set_of-from)
 
 pub no_tail : (set : List Bool) (bytes : List ℕ) → IsSpelling set bytes → HasTail (length set) bytes → ⊥
-no_tail set bytes s t = both_ways (is_in set t.0) (get_or_past set t.0 false t.1) (sym (s.bits t.0) ∙ t.2)
+no_tail set bytes s t = grind (arith, common_steps)
 
 pub spells_back : (n : ℕ) (bytes : List ℕ) → length bytes ≡ bytes_for n → (HasTail n bytes → ⊥) → IsSpelling (set_of n (bit_of bytes)) bytes
-spells_back n bytes count none = record {
-  count = count ∙ ap bytes_for (sym (length-set_of n (bit_of bytes)));
-  bits = λ k. elim (cases_lt k n) [
-    | inl inside ↦ sym (is_in-set_of n (bit_of bytes) k inside)
-    | inr past ↦
-        elim (cases_Bool (bit_of bytes k)) [
-          | inl here ↦ absurd (none (k, past, here))
-          | inr absent ↦ absent ∙ sym (get_or_past (set_of n (bit_of bytes)) k false (omega (arith, length-set_of n (bit_of bytes))))
-        ]
-  ];
-}
+spells_back n bytes count none = grind (arith, common_steps, length-set_of, cases_lt, is_in-set_of, cases_Bool, get_or_past)
 
 -- bits that pass the same test are one
 same_bit : (a b : ℕ) → a < 2 → b < 2 → (a == 1) ≡ (b == 1) → a ≡ b
-same_bit a b small little same =
-    elim (cases_eq a 1) [
-      | inl one ↦ let there : b ≡ 1 = eqb-true b 1 (sym same ∙ eq-eqb a 1 one) in omega arith
-      | inr none ↦
-          elim (cases_eq b 1) [
-            | inl one ↦ absurd (none (eqb-true a 1 (same ∙ eq-eqb b 1 one)))
-            | inr neither ↦ omega arith
-          ]
-    ]
+same_bit a b small little same = search rules
 
 pub one_spelling : (set : List Bool) (one other : List ℕ) → All (λ b. b < 2 ^ 8) one → All (λ b. b < 2 ^ 8) other → IsSpelling set one → IsSpelling set other → one ≡ other
 one_spelling set one other fits fit s t =

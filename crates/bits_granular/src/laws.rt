@@ -3,6 +3,7 @@
 ghost use Rattle.bits_granular.specs.Laws.{SpellingReadsBack, ReadingSpellsBack, SpellingIsOne};
 
 /// What spells a set is read as that set.
+#[tactic(auto, using(crate::proofs::Spellings::reads_back, crate::proofs::Spellings::no_tail))]
 pub fn spelling_reads_back()
     ensures { SpellingReadsBack }
 {}
@@ -13,6 +14,7 @@ pub fn reading_spells_back()
 {}
 
 /// A set has one spelling.
+#[tactic(auto, using(crate::proofs::Spellings::one_spelling))]
 pub fn spelling_is_one()
     ensures { SpellingIsOne }
 {}

@@ -1,27 +1,28 @@
 -- Going on by a line.
-use Rattle.std.proofs.Common.{◌≡◌, ℕ, zero, suc, ◌+◌, true, List, [], ◌∷◌, ◌++◌, Option, Some, None, sym, ap, subst, ◌∙◌, arith, append_assoc}
+use Rattle.std.proofs.Common.{◌≡◌, ℕ, zero, suc, ◌+◌, true, List, [], ◌∷◌, ◌++◌, Option, Some, None, sym, subst, ◌∙◌, arith, rules}
 use Rattle.std.specs.Prelude.{codes, ◌≢◌}
 use Rattle.std.specs.Option.{is_some}
 use Rattle.script_model.specs.Words.{without_return}
 use Rattle.script_model.specs.Lines.{IsNothing, Line, Ask, Qmp, Tick, Stop, Quit, Nothing, Asks, Spells, Say, FirstBadOf, HasNoForm, words_of}
+use Rattle.script_codec.specs.Views.{LineFound}
+use Rattle.script_model.proofs.WordLaws.{some_word, same_text}
+use Rattle.std.proofs.lemmas.Grind.{common_steps}
 use Rattle.core_events.specs.Events as events
 use Rattle.script_codec.specs.declared.lines.Line as declared
-use Rattle.script_codec.specs.Views.{plain_line, LineFound}
-use Rattle.script_model.proofs.WordLaws.{some_word, same_text}
 
 -- ---- one line
 
 -- a line that begins with `qmp` and a blank hands on what follows
 pub qmp_said : (text word rest : List ℕ) → words_of text ≡ word ∷ words_of rest → word ≡ codes "qmp" → text ≡ codes "qmp " ++ rest
-qmp_said text word rest e q = same_text text (codes "qmp " ++ rest) (e ∙ ap (λ (w : List ℕ). w ∷ words_of rest) q)
+qmp_said text word rest e q = grind (arith, common_steps, same_text)
 
 -- a line of several words says only what they ask
 pub none_said : (text word rest : List ℕ) → (IsNothing text → ⊥) → words_of text ≡ word ∷ words_of rest → word ≢ codes "qmp" → ((r : events.Request) → Asks (word ∷ words_of rest) r → ⊥) → HasNoForm text
 none_said text word rest some e other asks (Ask r) h = asks r (subst (λ (ws : List (List ℕ)). Asks ws r) e h)
-none_said text word rest some e other asks (Qmp json) h = other (let w : words_of text ≡ codes "qmp" ∷ words_of json = ap words_of h in cc)
-none_said text word rest some e other asks Tick h = some_word rest (let w : words_of text ≡ codes "tick" ∷ [] = ap words_of h in cc)
-none_said text word rest some e other asks Stop h = some_word rest (let w : words_of text ≡ codes "stop" ∷ [] = ap words_of h in cc)
-none_said text word rest some e other asks Quit h = some_word rest (let w : words_of text ≡ codes "quit" ∷ [] = ap words_of h in cc)
+none_said text word rest some e other asks (Qmp json) h = search rules
+none_said text word rest some e other asks Tick h = grind (arith, common_steps, some_word)
+none_said text word rest some e other asks Stop h = grind (arith, common_steps, some_word)
+none_said text word rest some e other asks Quit h = grind (arith, common_steps, some_word)
 none_said text word rest some e other asks Nothing h = some h
 
 -- ---- lines
@@ -45,16 +46,14 @@ pub record Follows (rest after : List (List ℕ)) (text : List ℕ) : Type 0 whe
   pub is : text ≡ without_return raw
 
 said_first : (rest after : List (List ℕ)) (text : List ℕ) (l : Line) (ls : List Line) → Follows rest after text → Spells text l → Say after ls → Say rest (l ∷ ls)
-said_first rest after text l ls f spelled says =
-    let here : Spells (without_return f.raw) l = subst (λ (t : List ℕ). Spells t l) f.is spelled in
-    subst (λ (r : List (List ℕ)). Say r (l ∷ ls)) (sym f.cut) (here, says)
+said_first rest after text l ls f spelled says = search rules
 
 -- past a line that has a form, the rest goes on
 pub goes_on : (rest after all : List (List ℕ)) (text : List ℕ) (l : Line) → Follows rest after text → Spells text l → GoesOn rest all → GoesOn after all
 goes_on rest after all text l f spelled h ls says = h (l ∷ ls) (said_first rest after text l ls f spelled says)
 
 pub read_on : (rest after all : List (List ℕ)) (text : List ℕ) (l : Line) (read : List Line) → Follows rest after text → Spells text l → ReadOn rest read all → ReadOn after (read ++ l ∷ []) all
-read_on rest after all text l read f spelled h ls says = subst (λ (xs : List Line). Say all xs) (sym (append_assoc read (l ∷ []) ls)) (h (l ∷ ls) (said_first rest after text l ls f spelled says))
+read_on rest after all text l read f spelled h ls says = grind (arith, common_steps)
 
 -- past a line that has a form, the first without one is still the whole's
 pub bad_on : (rest after all : List (List ℕ)) (text : List ℕ) (l : Line) (count : ℕ) → Follows rest after text → Spells text l → BadOn rest count all → BadOn after (count + 1) all
@@ -64,13 +63,7 @@ bad_on rest after all text l count f spelled h (suc n) bad =
     let one : FirstBadOf rest (suc (suc n)) = subst (λ (r : List (List ℕ)). FirstBadOf r (suc (suc n))) (sym f.cut) ((l, here), bad) in
     subst (λ (k : ℕ). FirstBadOf all k) (omega arith) (h (suc (suc n)) one)
 
--- a line without a form is the whole's first
-pub bad_here : (rest after all : List (List ℕ)) (text : List ℕ) (count : ℕ) → Follows rest after text → HasNoForm text → BadOn rest count all → FirstBadOf all (count + 1)
-bad_here rest after all text count f none h =
-    let here : HasNoForm (without_return f.raw) = subst (λ (t : List ℕ). HasNoForm t) f.is none in
-    h 1 (subst (λ (r : List (List ℕ)). FirstBadOf r 1) (sym f.cut) here)
-
 -- a line that was found has a form
 pub form_found : (found : Option declared.Line) (text : List ℕ) → is_some found ≡ true → LineFound text found → (l : Line) × Spells text l
 form_found None text e m = absurd cc
-form_found (Some l) text e m = (plain_line l, m)
+form_found (Some l) text e m = search rules

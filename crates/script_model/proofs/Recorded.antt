@@ -1,26 +1,27 @@
 -- Lines that were read can be written, and so can the lines that say a request.
-use Rattle.std.proofs.Common.{◌≡◌, ◌≢◌, inl, inr, ℕ, zero, suc, ◌^◌, ◌<◌, Bool, true, false, not, nat_lt, List, [], ◌∷◌, ◌++◌, length, refl, ap, subst, ◌∙◌, arith}
+use Rattle.std.proofs.Common.{◌≡◌, ◌≢◌, ℕ, zero, suc, ◌^◌, ◌<◌, Bool, true, false, nat_lt, List, [], ◌∷◌, ◌++◌, length, refl, ap, subst, ◌∙◌, arith, rules}
 use Rattle.std.specs.Prelude.{codes, ◌&&◌}
 use Rattle.std.specs.List.{All}
 use Rattle.std.specs.Fmt.{decimal}
-use Rattle.std.proofs.lemmas.Bool.{cases_Bool, and_parts, ltb-true, lt-ltb}
+use Rattle.std.proofs.lemmas.Bool.{cases_Bool, and_parts}
 use Rattle.std.proofs.lemmas.List.{append-nil}
 use Rattle.hex.specs.Hex.{IsBytes, encode_lower}
 use Rattle.hex.proofs.HexLemmas.{decode_of-encode_lower}
 use Rattle.core_events.specs.Events.{Request}
 use Rattle.core_events.specs.declared.events.Work.{Work}
-use Rattle.core_events.specs.declared.events.Work.TheVariants as work
 use Rattle.core_events.specs.declared.events.Work.TheVariants.{Read, Write, Zero, Flush, Status}
 use Rattle.script_model.specs.Words.{Lacks, IsNumber, lines_of, without_return}
-use Rattle.script_model.specs.Lines.{Line, Ask, Verb, verb_word, IsRange, IsContent, IsZeroRange, IsView, IsStatus, nohole_words, Takes, Asks, Say, words_of, asked, asked_to_write, drive}
-use Rattle.script_model.specs.Lines as spec
+use Rattle.script_model.specs.Lines.{Line, Ask, Verb, verb_word, IsRange, IsContent, IsZeroRange, IsView, IsStatus, nohole_words, Takes, Say, words_of, asked, asked_to_write, drive}
 use Rattle.script_model.specs.Texts.{range_text, nohole_text, IsWritable, AreWritable, name_of}
-use Rattle.script_model.specs.Recording.{lines_of_work, lines_of_request, flush_lines, is_word, is_drive}
+use Rattle.script_model.specs.Recording.{lines_of_work, lines_of_request, flush_lines, is_word}
 use Rattle.script_model.proofs.Numbers.{number_lacks, number_no_space}
 use Rattle.script_model.proofs.Lacking.{EachLacks, IsWord, lacks_blank, lacks_both, lacks_cut, lacks_tested, lines_lack, words_lack, words_lack_too, word_tested, word_passes}
 use Rattle.script_model.proofs.WordLaws.{first_word, number_word}
 use Rattle.script_model.proofs.Spellings.{range_again, write_again}
 use Rattle.script_model.proofs.Rereading.{lacks_range, lacks_write}
+use Rattle.std.proofs.lemmas.Grind.{common_steps}
+use Rattle.core_events.specs.declared.events.Work.TheVariants as work
+use Rattle.script_model.specs.Lines as spec
 
 -- ---- lines that were read
 
@@ -28,18 +29,18 @@ said_writable : (texts : List (List ℕ)) (ls : List Line) → EachLacks 10 text
 said_writable [] [] h s = tt
 said_writable [] (l ∷ ls) h s = absurd s
 said_writable (text ∷ texts) [] h s = absurd s
-said_writable (text ∷ texts) (l ∷ ls) h s = ((without_return text, lacks_cut 10 text h.0, s.0), said_writable texts ls h.1 s.1)
+said_writable (text ∷ texts) (l ∷ ls) h s = grind (arith, common_steps, lacks_cut 10 text h.0, said_writable texts ls h.1 s.1)
 
 pub read_writable : (bytes : List ℕ) (ls : List Line) → Say (lines_of bytes) ls → AreWritable ls
-read_writable bytes ls s = said_writable (lines_of bytes) ls (lines_lack bytes) s
+read_writable bytes ls s = grind (arith, common_steps, said_writable, lines_lack)
 
 -- ---- lines that say a request
 
 spelled : (n : ℕ) → n < 2 ^ 64 → IsNumber (decimal n) n
-spelled n h = record { fits = h; spelled = refl }
+spelled n h = search rules
 
 range_of : (at n : ℕ) → at < 2 ^ 64 → n < 2 ^ 64 → IsRange (decimal at ∷ decimal n ∷ []) at n
-range_of at n h k = record { offset = decimal at; count = decimal n; words = refl; offset_is = spelled at h; count_is = spelled n k }
+range_of at n h k = search rules
 
 -- words behind a name
 view_of : (name : List ℕ) (at n : ℕ) → IsWord name → at < 2 ^ 64 → n < 2 ^ 64 → IsView (words_of (name ++ 32 ∷ range_text at n)) name at n
@@ -70,11 +71,11 @@ status_line name context at n w x h k =
 -- the last number of a zero, and what follows it
 zero_end : (n : ℕ) (no_hole : Bool) → n < 2 ^ 64 → words_of (decimal n ++ nohole_text no_hole) ≡ decimal n ∷ nohole_words no_hole
 zero_end n true h = first_word (decimal n ++ nohole_text true) (decimal n) (codes "nohole") refl (number_no_space (decimal n) n (spelled n h))
-zero_end n false h = ap words_of (append-nil (decimal n)) ∙ number_word (decimal n) n (spelled n h)
+zero_end n false h = grind (arith, common_steps, append-nil, number_word, spelled)
 
 nohole_lacks : (no_hole : Bool) → Lacks 10 (nohole_text no_hole)
-nohole_lacks true = lacks_tested 10 (nohole_text true) refl
-nohole_lacks false = lacks_tested 10 (nohole_text false) refl
+nohole_lacks true = search rules
+nohole_lacks false = search rules
 
 zero_line : (at n : ℕ) (no_hole : Bool) → at < 2 ^ 64 → n < 2 ^ 64 → IsWritable (Ask (asked drive (work.Zero false no_hole) at n))
 zero_line at n no_hole h k =
@@ -87,7 +88,7 @@ zero_line at n no_hole h k =
 
 all_bytes : (bytes : List ℕ) → All (λ b. b < 256) bytes → IsBytes bytes
 all_bytes [] h i = omega arith
-all_bytes (b ∷ bytes) h zero = h 0 0 (omega arith)
+all_bytes (b ∷ bytes) h zero = search rules
 all_bytes (b ∷ bytes) h (suc i) = all_bytes bytes (λ k d lt. h (suc k) d (omega arith)) i
 
 write_line : (at : ℕ) (bytes : List ℕ) → at < 2 ^ 64 → All (λ b. b < 256) bytes → bytes ≢ [] → IsWritable (Ask (asked_to_write at bytes))
@@ -103,35 +104,20 @@ flush_writable true = (flush_line, tt)
 flush_writable false = tt
 
 some_bytes : (bytes : List ℕ) → nat_lt 0 (length bytes) ≡ true → bytes ≢ []
-some_bytes bytes h e = absurd (let lt : 0 < length bytes = ltb-true 0 (length bytes) h in omega (arith, ap length e))
+some_bytes bytes h e = search rules
 
 pub work_writable : (node : List ℕ) (w : Work) (at n : ℕ) (bytes : List ℕ) → at < 2 ^ 64 → n < 2 ^ 64 → All (λ b. b < 256) bytes → AreWritable (lines_of_work node w at n bytes)
-work_writable node Read at n bytes h k all = elim (cases_Bool (is_word node)) [
-  | inl word ↦ rw word (read_line node at n (word_tested node word) h k, tt)
-  | inr none ↦ rw none tt
-]
-work_writable node (Write fua) at n bytes h k all = elim (cases_Bool (is_drive node && nat_lt 0 (length bytes))) [
-  | inl said ↦ rw said (write_line at bytes h all (some_bytes bytes (and_parts (is_drive node) (nat_lt 0 (length bytes)) said).1), flush_writable fua)
-  | inr none ↦ rw none tt
-]
-work_writable node (Zero fua no_hole) at n bytes h k all = elim (cases_Bool (is_drive node)) [
-  | inl said ↦ rw said (zero_line at n no_hole h k, flush_writable fua)
-  | inr none ↦ rw none tt
-]
-work_writable node Flush at n bytes h k all = elim (cases_Bool (is_drive node)) [
-  | inl said ↦ rw said (flush_line, tt)
-  | inr none ↦ rw none tt
-]
-work_writable node (Status context one) at n bytes h k all = elim (cases_Bool (not one && (is_word node && is_word context))) [
-  | inl said ↦ rw said (let words = and_parts (is_word node) (is_word context) (and_parts (not one) (is_word node && is_word context) said).1 in (status_line node context at n (word_tested node words.0) (word_tested context words.1) h k, tt))
-  | inr none ↦ rw none tt
-]
+work_writable node Read at n bytes h k all = grind (arith, common_steps, cases_Bool, read_line, word_tested)
+work_writable node (Write fua) at n bytes h k all = grind (arith, common_steps, cases_Bool, nat_lt, write_line, some_bytes, and_parts, flush_writable)
+work_writable node (Zero fua no_hole) at n bytes h k all = grind (arith, common_steps, cases_Bool, zero_line, flush_writable)
+work_writable node Flush at n bytes h k all = grind (arith, common_steps, cases_Bool, flush_line)
+work_writable node (Status context one) at n bytes h k all = grind (arith, common_steps, cases_Bool, and_parts, status_line, word_tested)
 
 -- ---- what a line asked
 
 write_recorded : (at : ℕ) (bytes : List ℕ) → bytes ≢ [] → lines_of_request drive (asked_to_write at bytes) ≡ Ask (asked_to_write at bytes) ∷ []
-write_recorded at [] some = absurd (some refl)
-write_recorded at (b ∷ bytes) some = let more : nat_lt 0 (length (b ∷ bytes)) ≡ true = lt-ltb 0 (length (b ∷ bytes)) (omega arith) in rw more refl
+write_recorded at [] some = search rules
+write_recorded at (b ∷ bytes) some = search rules
 
 word_of : (text first name : List ℕ) (rest : List (List ℕ)) → Lacks 10 text → words_of text ≡ first ∷ name ∷ rest → name ≢ [] → is_word name ≡ true
 word_of text first name rest h e some = word_passes name (record { some = some; no_blank = (subst (EachLacks 32) e (words_lack text)).1.0; no_feed = (subst (EachLacks 10) e (words_lack_too 10 text h)).1.0 })
@@ -140,21 +126,15 @@ context_of : (text first name context : List ℕ) (rest : List (List ℕ)) → L
 context_of text first name context rest h e some = word_passes context (record { some = some; no_blank = (subst (EachLacks 32) e (words_lack text)).1.1.0; no_feed = (subst (EachLacks 10) e (words_lack_too 10 text h)).1.1.0 })
 
 behind : (text first : List ℕ) (args words : List (List ℕ)) → words_of text ≡ first ∷ args → args ≡ words → words_of text ≡ first ∷ words
-behind text first args words e f = e ∙ ap (λ (ws : List (List ℕ)). first ∷ ws) f
+behind text first args words e f = search rules
 
 taken_recorded : (text : List ℕ) (v : Verb) (args : List (List ℕ)) (r : Request) → Lacks 10 text → words_of text ≡ verb_word v ∷ args → Takes v args r → lines_of_request (name_of r.way) r ≡ Ask r ∷ []
-taken_recorded text spec.Write args r l e h = rw h.3 (write_recorded h.0 h.1 h.2.some)
+taken_recorded text spec.Write args r l e h = grind (arith, common_steps)
 taken_recorded text spec.Read args r l e h = rw h.3 refl
 taken_recorded text spec.Zero args r l e h = rw h.4 refl
 taken_recorded text spec.Flush args r l e h = rw h.1 refl
-taken_recorded text spec.View args r l e h =
-    let word = word_of text (codes "view") h.0 h.3.rest l (behind text (codes "view") args _ e h.3.words) h.3.some in
-    rw (h.4, word) refl
-taken_recorded text spec.Status args r l e h =
-    let words = behind text (codes "status") args _ e h.4.words in
-    let node = word_of text (codes "status") h.0 (h.1 ∷ h.4.rest) l words h.4.some in
-    let context = context_of text (codes "status") h.0 h.1 h.4.rest l words h.4.some_context in
-    rw (h.5, node, context) refl
+taken_recorded text spec.View args r l e h = grind (arith, common_steps, word_of, behind)
+taken_recorded text spec.Status args r l e h = grind (arith, common_steps, behind, word_of, context_of)
 
 said_recorded : (texts : List (List ℕ)) (r : Request) → EachLacks 10 texts → Say texts (Ask r ∷ []) → lines_of_request (name_of r.way) r ≡ Ask r ∷ []
 said_recorded [] r h s = absurd s

@@ -1,9 +1,8 @@
 -- A script of spellings is read as the lines that were written.
-use Rattle.std.proofs.Common.{◌≡◌, inl, inr, ℕ, ◌-◌, List, [], ◌∷◌, ◌++◌, length, get_or, refl, sym, ap, subst, ◌∙◌, arith, append_assoc, length-append}
+use Rattle.std.proofs.Common.{◌≡◌, inl, inr, ℕ, ◌-◌, List, [], ◌∷◌, ◌++◌, length, get_or, refl, sym, ap, ◌∙◌, arith, append_assoc, rules}
 use Rattle.std.specs.Prelude.{codes, bytes_eq, ◌==◌}
 use Rattle.std.specs.Fmt.{decimal}
 use Rattle.std.proofs.lemmas.Bool.{cases_Bool}
-use Rattle.std.proofs.lemmas.List.{take_at, get_or_at}
 use Rattle.hex.specs.Hex.{encode_lower}
 use Rattle.hex.proofs.HexLemmas.{decode_of-ok, decode_of-encode_lower}
 use Rattle.core_events.specs.Events.{Request}
@@ -11,9 +10,10 @@ use Rattle.script_model.specs.Words.{Lacks, lines_of, without_return}
 use Rattle.script_model.proofs.Numbers.{number_lacks}
 use Rattle.script_model.specs.Lines.{Line, Ask, Qmp, Tick, Stop, Quit, Nothing, Verb, Write, Read, Zero, Flush, View, Status, verb_word, IsRange, IsContent, Takes, Spells, Say, words_of, drive}
 use Rattle.script_model.specs.Texts.{line_text, range_text, line_end, AreWritable, script_text}
-use Rattle.script_model.proofs.Lacking.{lacks_nothing, lacks_blank, lacks_both, lacks_tested}
+use Rattle.script_model.proofs.Lacking.{lacks_blank, lacks_both, lacks_tested}
 use Rattle.script_model.proofs.WordLaws.{line_at_front, hex_lacks}
 use Rattle.script_model.proofs.Spellings.{number_spelled, zero_spelled, view_spelled, status_spelled, spelling_read}
+use Rattle.std.proofs.lemmas.Grind.{common_steps}
 
 -- ---- spellings without a line feed
 
@@ -34,13 +34,13 @@ lacks_write args at bytes h =
     lacks_both 10 (codes "write " ++ decimal at) (32 ∷ encode_lower bytes) head (lacks_blank (encode_lower bytes) digits)
 
 lacks_as : (text spelled : List ℕ) → text ≡ spelled → Lacks 10 text → Lacks 10 spelled
-lacks_as text spelled e h = subst (Lacks 10) e h
+lacks_as text spelled e h = search rules
 
 lacks_asked : (text : List ℕ) (v : Verb) (args : List (List ℕ)) (r : Request) → Lacks 10 text → words_of text ≡ verb_word v ∷ args → Takes v args r → Lacks 10 (line_text (Ask r))
 lacks_asked text Write args r w e h = rw h.3 (lacks_write args h.0 h.1 h.2)
 lacks_asked text Read args r w e h = rw h.3 (lacks_read args h.0 h.1 h.2)
 lacks_asked text Zero args r w e h = rw h.4 (lacks_as text _ (zero_spelled text args h.0 h.1 h.2 e h.3) w)
-lacks_asked text Flush args r w e h = rw h.1 (lacks_tested 10 (codes "flush") refl)
+lacks_asked text Flush args r w e h = search rules
 lacks_asked text View args r w e h = rw h.4 (elim (cases_Bool (bytes_eq h.0 drive)) [
   | inl drives ↦ rw drives (lacks_read h.3.rest h.1 h.2 h.3.range)
   | inr other ↦ rw other (lacks_as text _ (view_spelled text args h.0 h.1 h.2 e h.3) w)
@@ -49,21 +49,18 @@ lacks_asked text Status args r w e h = rw h.5 (lacks_as text _ (status_spelled t
 
 -- the spelling of a line that a text without a line feed says lacks one too
 lacks_spelling : (text : List ℕ) (l : Line) → Lacks 10 text → Spells text l → Lacks 10 (line_text l)
-lacks_spelling text (Ask r) w h = lacks_asked text h.verb h.args r w h.are h.takes
+lacks_spelling text (Ask r) w h = grind (arith, common_steps, lacks_asked)
 lacks_spelling text (Qmp json) w h = lacks_as text _ h w
-lacks_spelling text Tick w h = lacks_as text _ h w
-lacks_spelling text Stop w h = lacks_as text _ h w
-lacks_spelling text Quit w h = lacks_as text _ h w
-lacks_spelling text Nothing w h = lacks_nothing 10
+lacks_spelling text Tick w h = search rules
+lacks_spelling text Stop w h = search rules
+lacks_spelling text Quit w h = search rules
+lacks_spelling text Nothing w h = search rules
 
 -- ---- lines as they are written
 
 -- one carriage return at a line's end is dropped
 one_dropped : (text : List ℕ) → without_return (text ++ 13 ∷ []) ≡ text
-one_dropped text =
-    let last : length (text ++ 13 ∷ []) - 1 ≡ length text = omega (arith, length-append text (13 ∷ [])) in
-    let ends : get_or (text ++ 13 ∷ []) (length text) 0 ≡ 13 = get_or_at text 13 [] 0 (length text) refl in
-    rw (last, ends) (take_at text (13 ∷ []) (length text) refl)
+one_dropped text = grind (arith, common_steps)
 
 -- a text and its end are one line, which is read as the text
 pub record IsCut (whole text rest : List ℕ) : Type 0 where
@@ -88,7 +85,4 @@ end_cut text rest h = elim (cases_Bool (get_or text (length text - 1) 0 == 13)) 
 -- a script of spellings says the lines that were written
 pub script_read : (ls : List Line) → AreWritable ls → Say (lines_of (script_text ls)) ls
 script_read [] h = tt
-script_read (l ∷ ls) h =
-    let cut = end_cut (line_text l) (script_text ls) (lacks_spelling h.0.0 l h.0.1 h.0.2) in
-    let here : Spells (without_return cut.raw) l = subst (λ (t : List ℕ). Spells t l) (sym cut.read) (spelling_read l (h.0.0, h.0.2)) in
-    subst (λ (texts : List (List ℕ)). Say texts (l ∷ ls)) (sym cut.lines) (here, script_read ls h.1)
+script_read (l ∷ ls) h = grind (arith, common_steps, end_cut (line_text l) (script_text ls) (lacks_spelling h.0.0 l h.0.1 h.0.2), lacks_spelling h.0.0 l h.0.1 h.0.2, spelling_read l (h.0.0, h.0.2), script_read ls h.1)

@@ -1,14 +1,12 @@
 -- A text says one line at most, and a script one list of lines.
-use Rattle.std.proofs.Common.{◌≡◌, ℕ, zero, suc, ◌+◌, Bool, true, false, List, [], ◌∷◌, ◌++◌, get_or, Ok, refl, sym, ap, subst, ◌∙◌, if◌then◌else◌}
+use Rattle.std.proofs.Common.{◌≡◌, ℕ, zero, suc, ◌+◌, Bool, true, false, List, [], ◌∷◌, ◌++◌, get_or, refl, sym, ap, subst, ◌∙◌, if◌then◌else◌, rules, arith}
 use Rattle.std.specs.Prelude.{codes, ◌==◌, nat_lt}
 use Rattle.std.specs.List.{onto_first}
-use Rattle.std.proofs.lemmas.List.{append_cancel_left}
-use Rattle.hex.specs.Hex.{decode_of}
 use Rattle.hex.proofs.HexLemmas.{decode_of-same}
 use Rattle.core_events.specs.Events.{Request}
-use Rattle.script_model.specs.Words.{IsNumber, without_return}
 use Rattle.script_model.specs.Lines.{IsNothing, Line, Ask, Qmp, Tick, Stop, Quit, Nothing, Verb, Write, Read, Zero, Flush, View, Status, verb_word, IsRange, IsContent, IsZeroRange, IsView, IsStatus, nohole_words, Takes, Asks, asked_to_write, Spells, Say, FirstBadOf, words_of}
 use Rattle.script_model.proofs.Numbers.{one_number}
+use Rattle.std.proofs.lemmas.Grind.{common_steps}
 
 -- ---- verbs
 
@@ -25,23 +23,15 @@ letter View = refl
 letter Status = refl
 
 pub one_verb : (v w : Verb) → verb_word v ≡ verb_word w → v ≡ w
-one_verb v w e = sym (letter v) ∙ ap (λ (t : List ℕ). by_letter (get_or t 0 0)) e ∙ letter w
+one_verb v w e = search rules
 
 -- ---- requests
 
 one_range : (args : List (List ℕ)) (at n at2 n2 : ℕ) → IsRange args at n → IsRange args at2 n2 → (at ≡ at2) × (n ≡ n2)
-one_range args at n at2 n2 h k =
-    let w : h.offset ∷ h.count ∷ [] ≡ k.offset ∷ k.count ∷ [] = sym h.words ∙ k.words in
-    let first : h.offset ≡ k.offset = cc in
-    let last : h.count ≡ k.count = cc in
-    (one_number k.offset at at2 (subst (λ (t : List ℕ). IsNumber t at) first h.offset_is) k.offset_is, one_number k.count n n2 (subst (λ (t : List ℕ). IsNumber t n) last h.count_is) k.count_is)
+one_range args at n at2 n2 h k = grind (arith, common_steps, one_number)
 
 one_content : (args : List (List ℕ)) (at : ℕ) (bytes : List ℕ) (at2 : ℕ) (bytes2 : List ℕ) → IsContent args at bytes → IsContent args at2 bytes2 → (at ≡ at2) × (bytes ≡ bytes2)
-one_content args at bytes at2 bytes2 h k =
-    let w : h.offset ∷ h.hex ∷ [] ≡ k.offset ∷ k.hex ∷ [] = sym h.words ∙ k.words in
-    let first : h.offset ≡ k.offset = cc in
-    let last : h.hex ≡ k.hex = cc in
-    (one_number k.offset at at2 (subst (λ (t : List ℕ). IsNumber t at) first h.offset_is) k.offset_is, decode_of-same k.hex bytes bytes2 (subst (λ (t : List ℕ). decode_of t ≡ Ok bytes) last h.decodes) k.decodes)
+one_content args at bytes at2 bytes2 h k = grind (arith, common_steps, one_number, decode_of-same)
 
 one_hole_word : (a b : Bool) → nohole_words a ≡ nohole_words b → a ≡ b
 one_hole_word true true e = refl
@@ -50,12 +40,7 @@ one_hole_word true false e = absurd cc
 one_hole_word false true e = absurd cc
 
 one_hole : (args : List (List ℕ)) (at n : ℕ) (a : Bool) (at2 n2 : ℕ) (b : Bool) → IsZeroRange args at n a → IsZeroRange args at2 n2 b → (at ≡ at2) × (n ≡ n2) × (a ≡ b)
-one_hole args at n a at2 n2 b h k =
-    let w : h.offset ∷ h.count ∷ nohole_words a ≡ k.offset ∷ k.count ∷ nohole_words b = sym h.words ∙ k.words in
-    let first : h.offset ≡ k.offset = cc in
-    let last : h.count ≡ k.count = cc in
-    let words : nohole_words a ≡ nohole_words b = cc in
-    (one_number k.offset at at2 (subst (λ (t : List ℕ). IsNumber t at) first h.offset_is) k.offset_is, one_number k.count n n2 (subst (λ (t : List ℕ). IsNumber t n) last h.count_is) k.count_is, one_hole_word a b words)
+one_hole args at n a at2 n2 b h k = grind (arith, common_steps, one_number, one_hole_word)
 
 one_view : (args : List (List ℕ)) (a : List ℕ) (at n : ℕ) (b : List ℕ) (at2 n2 : ℕ) → IsView args a at n → IsView args b at2 n2 → (a ≡ b) × (at ≡ at2) × (n ≡ n2)
 one_view args a at n b at2 n2 h k =
@@ -76,17 +61,13 @@ one_taken : (v : Verb) (args : List (List ℕ)) (r s : Request) → Takes v args
 one_taken Write args r s h k = let same = one_content args h.0 h.1 k.0 k.1 h.2 k.2 in let e : r ≡ asked_to_write h.0 h.1 = h.3 in let f : s ≡ asked_to_write k.0 k.1 = k.3 in e ∙ rw (same.0, same.1) refl ∙ sym f
 one_taken Read args r s h k = let same = one_range args h.0 h.1 k.0 k.1 h.2 k.2 in h.3 ∙ rw (same.0, same.1) refl ∙ sym k.3
 one_taken Zero args r s h k = let same = one_hole args h.0 h.1 h.2 k.0 k.1 k.2 h.3 k.3 in h.4 ∙ rw (same.0, same.1, same.2) refl ∙ sym k.4
-one_taken Flush args r s h k = h.1 ∙ sym k.1
+one_taken Flush args r s h k = search rules
 one_taken View args r s h k = let same = one_view args h.0 h.1 h.2 k.0 k.1 k.2 h.3 k.3 in h.4 ∙ rw (same.0, same.1, same.2) refl ∙ sym k.4
 one_taken Status args r s h k = let same = one_status args h.0 h.1 h.2 h.3 k.0 k.1 k.2 k.3 h.4 k.4 in h.5 ∙ rw (same.0, same.1, same.2, same.3) refl ∙ sym k.5
 
 -- words ask one thing at most
 one_asked : (words : List (List ℕ)) (r s : Request) → Asks words r → Asks words s → r ≡ s
-one_asked words r s h k =
-    let w : verb_word h.verb ∷ h.args ≡ verb_word k.verb ∷ k.args = sym h.are ∙ k.are in
-    let verbs : verb_word h.verb ≡ verb_word k.verb = cc in
-    let args : h.args ≡ k.args = cc in
-    one_taken k.verb k.args r s (subst (λ (v : Verb). Takes v k.args r) (one_verb h.verb k.verb verbs) (subst (λ (ws : List (List ℕ)). Takes h.verb ws r) args h.takes)) k.takes
+one_asked words r s h k = grind (arith, common_steps, one_taken, one_verb)
 
 -- ---- lines
 
@@ -123,18 +104,18 @@ first_onto (part ∷ parts) = refl
 
 kind_nothing : (text : List ℕ) → IsNothing text → kind_of (first_of (words_of text)) ≡ 5
 kind_nothing [] h = refl
-kind_nothing (b ∷ bytes) h = rw h (first_onto (words_of bytes))
+kind_nothing (b ∷ bytes) h = search rules
 
 kind_said : (text : List ℕ) (l : Line) → Spells text l → kind_of (first_of (words_of text)) ≡ kind l
-kind_said text (Ask r) h = rw h.are (kind_asked h.verb)
+kind_said text (Ask r) h = search rules
 kind_said text (Qmp json) h = rw h refl
 kind_said text Tick h = rw h refl
 kind_said text Stop h = rw h refl
 kind_said text Quit h = rw h refl
-kind_said text Nothing h = kind_nothing text h
+kind_said text Nothing h = search rules
 
 one_qmp : (text json other : List ℕ) → text ≡ codes "qmp " ++ json → text ≡ codes "qmp " ++ other → Qmp json ≡ Qmp other
-one_qmp text json other h k = let same : json ≡ other = append_cancel_left (codes "qmp ") json other (sym h ∙ k) in ap Qmp same
+one_qmp text json other h k = search rules
 
 -- two of one kind that a text says are one
 one_of_kind : (text : List ℕ) (a b : Line) → kind a ≡ kind b → Spells text a → Spells text b → a ≡ b
@@ -145,7 +126,7 @@ one_of_kind text (Ask r) Stop e h k = absurd cc
 one_of_kind text (Ask r) Quit e h k = absurd cc
 one_of_kind text (Ask r) Nothing e h k = absurd cc
 one_of_kind text (Qmp json) (Ask s) e h k = absurd cc
-one_of_kind text (Qmp json) (Qmp other) e h k = one_qmp text json other h k
+one_of_kind text (Qmp json) (Qmp other) e h k = search rules
 one_of_kind text (Qmp json) Tick e h k = absurd cc
 one_of_kind text (Qmp json) Stop e h k = absurd cc
 one_of_kind text (Qmp json) Quit e h k = absurd cc
@@ -177,7 +158,7 @@ one_of_kind text Nothing Nothing e h k = refl
 
 -- a text says one line at most
 pub one_line : (text : List ℕ) (a b : Line) → Spells text a → Spells text b → a ≡ b
-one_line text a b h k = one_of_kind text a b (sym (kind_said text a h) ∙ kind_said text b k) h k
+one_line text a b h k = grind (arith, common_steps, one_of_kind, kind_said)
 
 -- ---- scripts
 
@@ -188,17 +169,14 @@ one_saying [] [] (m ∷ b) h k = absurd k
 one_saying [] (l ∷ a) b h k = absurd h
 one_saying (text ∷ texts) [] b h k = absurd h
 one_saying (text ∷ texts) (l ∷ a) [] h k = absurd k
-one_saying (text ∷ texts) (l ∷ a) (m ∷ b) h k =
-    let heads : l ≡ m = one_line (without_return text) l m h.0 k.0 in
-    let tails : a ≡ b = one_saying texts a b h.1 k.1 in
-    cc
+one_saying (text ∷ texts) (l ∷ a) (m ∷ b) h k = grind (arith, common_steps, one_line, one_saying texts a b)
 
 -- lines of which one has no form say nothing
 pub bad_says_nothing : (texts : List (List ℕ)) (n : ℕ) (ls : List Line) → FirstBadOf texts n → Say texts ls → ⊥
 bad_says_nothing texts zero ls bad says = bad
 bad_says_nothing [] (suc n) ls bad says = bad
 bad_says_nothing (text ∷ texts) (suc zero) [] bad says = says
-bad_says_nothing (text ∷ texts) (suc zero) (l ∷ ls) bad says = bad l says.0
+bad_says_nothing (text ∷ texts) (suc zero) (l ∷ ls) bad says = search rules
 bad_says_nothing (text ∷ texts) (suc (suc n)) [] bad says = says
 bad_says_nothing (text ∷ texts) (suc (suc n)) (l ∷ ls) bad says = bad_says_nothing texts (suc n) ls bad.1 says.1
 
@@ -208,6 +186,6 @@ one_first_bad texts zero n h k = absurd h
 one_first_bad texts (suc m) zero h k = absurd k
 one_first_bad [] (suc m) (suc n) h k = absurd h
 one_first_bad (text ∷ texts) (suc zero) (suc zero) h k = refl
-one_first_bad (text ∷ texts) (suc zero) (suc (suc n)) h k = absurd (h k.0.0 k.0.1)
-one_first_bad (text ∷ texts) (suc (suc m)) (suc zero) h k = absurd (k h.0.0 h.0.1)
+one_first_bad (text ∷ texts) (suc zero) (suc (suc n)) h k = search rules
+one_first_bad (text ∷ texts) (suc (suc m)) (suc zero) h k = search rules
 one_first_bad (text ∷ texts) (suc (suc m)) (suc (suc n)) h k = ap suc (one_first_bad texts (suc m) (suc n) h.1 k.1)

@@ -1,16 +1,17 @@
 -- Each write has a date, the last point before it. Where points rise, what was touched between two points is what is
 -- dated from the one on and before the other.
-use Rattle.std.proofs.Common.{◌≡◌, Bool, true, false, not, ◌&&◌, inl, inr, refl, sym, ap, subst, ◌∙◌, List, [], ◌∷◌}
+use Rattle.std.proofs.Common.{◌≡◌, Bool, true, false, not, ◌&&◌, inl, inr, refl, sym, ap, subst, ◌∙◌, List, [], ◌∷◌, rules, arith}
 use Rattle.std.specs.Prelude.{Option, Some, None, All, IsTrue, if◌then◌else◌}
 use Rattle.std.proofs.lemmas.List.Elements.{All-head, All-tail, All-cons, All-nil}
-use Rattle.std.proofs.lemmas.Bool.{and_from, and_left, and_right, or_cases, not_from_false, not_from_true, both_ways, cases_Bool, cond-true, cond-false}
+use Rattle.std.proofs.lemmas.Bool.{and_from, and_right, or_cases, not_from_false, both_ways, cases_Bool, cond-true, cond-false}
 use Rattle.span_algebra.specs.declared.points.Point.{Point}
 use Rattle.span_algebra.specs.declared.points.End.{End}
 use Rattle.span_algebra.specs.declared.points.End.TheVariants.{Now, At}
 use Rattle.span_algebra.specs.Points.{same_point, precedes, not_after, reaches}
-use Rattle.span_algebra.specs.Timelines.{Extent, Entry, Wrote, Reached, has_point, is_after, Rise, after_point, before_point, before_end, writes}
+use Rattle.span_algebra.specs.Timelines.{Extent, Entry, Wrote, Reached, has_point, is_after, Rise, after_point, before_end, writes}
 use Rattle.span_algebra.proofs.PointOrder.{precedes-itself, same_point-true, later-on}
 use Rattle.span_algebra.proofs.Touched.{past_write, past_other}
+use Rattle.std.proofs.lemmas.Grind.{common_steps}
 
 -- a write, with the last point before it, if there is one
 pub record Dated : Type 0 where
@@ -43,7 +44,7 @@ end_in Now xs = true
 end_in (At q) xs = has_point q xs
 
 pub after-stands : (l q : Point) (xs : List Entry) → All (λ m. IsTrue (is_after l m)) xs → has_point q xs ≡ true → precedes l q ≡ true
-after-stands l q [] after there = absurd (both_ways false refl there)
+after-stands l q [] after there = search rules
 after-stands l q (Wrote e ∷ xs) after there = after-stands l q xs (All-tail (λ m. IsTrue (is_after l m)) (Wrote e) xs after) (past_write q e xs there)
 after-stands l q (Reached r ∷ xs) after there =
     elim (or_cases (same_point q r) (has_point q xs) there) [
@@ -62,12 +63,11 @@ none_before p q l (Wrote e ∷ xs) from rising after =
     let rest : List Extent = within p (At q) (dated_from (Some l) xs) in
     cond-false (not (precedes l p) && precedes l q) (e ∷ rest) rest (and_right (not (precedes l p)) (precedes l q) from)
     ∙ none_before p q l xs from rising (All-tail (λ m. IsTrue (is_after l m)) (Wrote e) xs after)
-none_before p q l (Reached r ∷ xs) from rising after =
-    none_before p q r xs (later-on l q r from (All-head (λ m. IsTrue (is_after l m)) (Reached r) xs after)) rising.1 rising.0
+none_before p q l (Reached r ∷ xs) from rising after = grind (arith, common_steps, later-on l q r from (All-head (λ m. IsTrue (is_after l m)) (Reached r) xs after), none_before p q r xs (later-on l q r from (All-head (λ m. IsTrue (is_after l m)) (Reached r) xs after)) rising.1 rising.0)
 
 end_past_write : (to : End) (e : Extent) (xs : List Entry) → end_in to (Wrote e ∷ xs) ≡ true → end_in to xs ≡ true
 end_past_write Now e xs there = refl
-end_past_write (At q) e xs there = past_write q e xs there
+end_past_write (At q) e xs there = search rules
 
 before_write : (to : End) (e : Extent) (xs : List Entry) → before_end to (Wrote e ∷ xs) ≡ Wrote e ∷ before_end to xs
 before_write Now e xs = refl
@@ -80,21 +80,20 @@ ends_at (At q) r = same_point q r
 
 end_past_other : (to : End) (r : Point) (xs : List Entry) → ends_at to r ≡ false → end_in to (Reached r ∷ xs) ≡ true → end_in to xs ≡ true
 end_past_other Now r xs other there = refl
-end_past_other (At q) r xs other there = past_other q r xs other there
+end_past_other (At q) r xs other there = search rules
 
 before_other : (to : End) (r : Point) (xs : List Entry) → ends_at to r ≡ false → before_end to (Reached r ∷ xs) ≡ Reached r ∷ before_end to xs
 before_other Now r xs other = refl
-before_other (At q) r xs other = cond-false (same_point q r) [] (Reached r ∷ before_point q xs) other
+before_other (At q) r xs other = search rules
 
 before_same : (to : End) (r : Point) (xs : List Entry) → ends_at to r ≡ true → before_end to (Reached r ∷ xs) ≡ []
-before_same Now r xs same = absurd (both_ways false refl same)
-before_same (At q) r xs same = cond-true (same_point q r) [] (Reached r ∷ before_point q xs) same
+before_same Now r xs same = search rules
+before_same (At q) r xs same = search rules
 
 none_at : (p : Point) (to : End) (r : Point) (xs : List Entry) → ends_at to r ≡ true → Rise xs → All (λ m. IsTrue (is_after r m)) xs
     → within p to (dated_from (Some r) xs) ≡ []
-none_at p Now r xs same rising after = absurd (both_ways false refl same)
-none_at p (At q) r xs same rising after =
-    none_before p q r xs (subst (λ (x : Point). precedes r x ≡ false) (sym (same_point-true q r same)) (precedes-itself r)) rising after
+none_at p Now r xs same rising after = search rules
+none_at p (At q) r xs same rising after = grind (arith, common_steps, none_before, same_point-true, precedes-itself)
 
 -- once p has been reached, all is within until the end
 up_to : (p l : Point) (to : End) (xs : List Entry) → precedes l p ≡ false → Rise xs → All (λ m. IsTrue (is_after l m)) xs → end_in to xs ≡ true
@@ -123,25 +122,17 @@ IsEarly p (Some l) = precedes l p ≡ true
 
 not_within : (p : Point) (to : End) (date : Option Point) → IsEarly p date → is_within p to date ≡ false
 not_within p to None early = refl
-not_within p to (Some l) early = and_left (not (precedes l p)) (precedes_end l to) (not_from_true (precedes l p) early)
+not_within p to (Some l) early = search rules
 
 -- the end isn't a point before p
 ends_past : (p r : Point) (to : End) → reaches to p ≡ true → precedes r p ≡ true → ends_at to r ≡ false
 ends_past p r Now order before = refl
-ends_past p r (At q) order before =
-    elim (cases_Bool (same_point q r)) [
-      | inl same ↦ absurd (both_ways (not (precedes q p)) (not_from_true (precedes q p) (subst (λ (x : Point). precedes x p ≡ true) (sym (same_point-true q r same)) before)) order)
-      | inr other ↦ other
-    ]
+ends_past p r (At q) order before = search rules
 
 from_point : (p : Point) (to : End) (last : Option Point) (xs : List Entry) → IsEarly p last → Rise xs → has_point p xs ≡ true → end_in to xs ≡ true → reaches to p ≡ true
     → within p to (dated_from last xs) ≡ writes (after_point p (before_end to xs))
-from_point p to last [] early rising here there order = absurd (both_ways false refl here)
-from_point p to last (Wrote e ∷ xs) early rising here there order =
-    let rest : List Extent = within p to (dated_from last xs) in
-    cond-false (is_within p to last) (e ∷ rest) rest (not_within p to last early)
-    ∙ (from_point p to last xs early rising (past_write p e xs here) (end_past_write to e xs there) order
-    ∙ sym (ap (λ (ys : List Entry). writes (after_point p ys)) (before_write to e xs)))
+from_point p to last [] early rising here there order = search rules
+from_point p to last (Wrote e ∷ xs) early rising here there order = grind (arith, common_steps, cond-false, not_within, past_write, end_past_write, before_write, from_point p to last xs)
 from_point p to last (Reached r ∷ xs) early rising here there order =
     elim (cases_Bool (ends_at to r)) [
       | inl end ↦
@@ -166,14 +157,14 @@ from_point p to last (Reached r ∷ xs) early rising here there order =
 -- what was touched is what is dated within
 pub touched_is_within : (p : Point) (to : End) (xs : List Entry) → Rise xs → has_point p xs ≡ true → end_in to xs ≡ true → reaches to p ≡ true
     → within p to (dated_from None xs) ≡ writes (after_point p (before_end to xs))
-touched_is_within p to xs rising here there order = from_point p to None xs tt rising here there order
+touched_is_within p to xs rising here there order = grind (arith, common_steps, from_point)
 
 -- a fact about each write that stands within
 abbrev pub AllWithin : (Extent → Type 0) → Point → End → List Dated → Type 0
 AllWithin P p to ws = All (λ w. is_within p to w.date ≡ true → P w.extent) ws
 
 pub to_within : (P : Extent → Type 0) (p : Point) (to : End) (ws : List Dated) → All P (within p to ws) → AllWithin P p to ws
-to_within P p to [] all = All-nil (λ w. is_within p to w.date ≡ true → P w.extent)
+to_within P p to [] all = search rules
 to_within P p to (w ∷ ws) all =
     let rest : List Extent = within p to ws in
     elim (cases_Bool (is_within p to w.date)) [

@@ -1,8 +1,8 @@
 -- A change at the last point, after which no write stands: clearing, disabling, enabling, abdication.
-use Rattle.std.proofs.Common.{◌≡◌, ℕ, Bool, true, false, inl, inr, refl, sym, ap, subst, ◌∙◌, List, [], ◌∷◌, ◌++◌}
+use Rattle.std.proofs.Common.{◌≡◌, ℕ, Bool, true, false, inl, inr, refl, sym, ap, subst, ◌∙◌, List, [], ◌∷◌, ◌++◌, rules, arith}
 use Rattle.std.specs.Prelude.{All, IsTrue}
-use Rattle.std.proofs.lemmas.List.Elements.{All-cons, All-nil, All-head, All-tail}
-use Rattle.std.proofs.lemmas.Bool.{or_cases, or_left, or_right, not_from_false, both_ways, cases_Bool, cond-true, cond-false, cond_both}
+use Rattle.std.proofs.lemmas.List.Elements.{All-head, All-tail}
+use Rattle.std.proofs.lemmas.Bool.{or_cases, not_from_false, both_ways, cond-false, cond_both}
 use Rattle.span_algebra.specs.declared.points.Point.{Point}
 use Rattle.span_algebra.specs.declared.points.End.TheVariants.{Now, At}
 use Rattle.span_algebra.specs.declared.spans.Span.{Span}
@@ -10,10 +10,11 @@ use Rattle.span_algebra.specs.declared.spans.Span.TheVariants.{Unknown, Known}
 use Rattle.span_algebra.specs.declared.spans.Base.{Base}
 use Rattle.span_algebra.specs.declared.spans.Base.TheVariants.{Whole, Since, Loose}
 use Rattle.span_algebra.specs.Points.{same_point, precedes}
-use Rattle.span_algebra.specs.Timelines.{Entry, Wrote, Reached, Timeline, with_point, has_point, stands, is_point, is_after, Rise, IsRising, after_point, before_point, writes, touched}
+use Rattle.span_algebra.specs.Timelines.{Entry, Wrote, Reached, Timeline, with_point, has_point, stands, is_after, Rise, IsRising, after_point, before_point, touched}
 use Rattle.span_algebra.specs.Spans.{AllBytes, AllTouched, SpanHolds, SpanIsTrue, after_clear, after_disable, after_enable, base_of}
-use Rattle.span_algebra.proofs.PointOrder.{precedes-itself, same_point-true, same_point-itself, precedes-back, precedes-other}
+use Rattle.span_algebra.proofs.PointOrder.{precedes-itself, same_point-true, precedes-back, precedes-other}
 use Rattle.span_algebra.proofs.Touched.{none_between, touched-point}
+use Rattle.std.proofs.lemmas.Grind.{common_steps}
 
 -- the entry isn't a point, or one before p
 abbrev pub is_before : Point → Entry → Bool
@@ -29,21 +30,17 @@ last_after l p (m ∷ xs) after = last_after l p xs (All-tail (λ m. IsTrue (is_
 
 -- where points rise, all others stand before the last one
 pub past : (p : Point) (xs : List Entry) → Rise (xs ++ Reached p ∷ []) → ArePast p xs
-past p [] rising = All-nil (λ m. IsTrue (is_before p m))
-past p (Wrote e ∷ xs) rising = All-cons (λ m. IsTrue (is_before p m)) (Wrote e) xs refl (past p xs rising)
-past p (Reached q ∷ xs) rising = All-cons (λ m. IsTrue (is_before p m)) (Reached q) xs (last_after q p xs rising.0) (past p xs rising.1)
+past p [] rising = search rules
+past p (Wrote e ∷ xs) rising = grind (arith, common_steps, past p xs)
+past p (Reached q ∷ xs) rising = grind (arith, common_steps, last_after q p xs rising.0, past p xs rising.1)
 
 pub last_stands : (p : Point) (xs : List Entry) → has_point p (xs ++ Reached p ∷ []) ≡ true
-last_stands p [] = or_left (same_point p p) false (same_point-itself p)
-last_stands p (m ∷ xs) = or_right (is_point p m) (has_point p (xs ++ Reached p ∷ [])) (last_stands p xs)
+last_stands p [] = search rules
+last_stands p (m ∷ xs) = grind (arith, common_steps)
 
 -- a point that stands isn't after the last one
 pub none_later : (q p : Point) (xs : List Entry) → ArePast p xs → has_point q (xs ++ Reached p ∷ []) ≡ true → precedes p q ≡ false
-none_later q p [] early h =
-    elim (or_cases (same_point q p) false h) [
-      | inl same ↦ subst (λ (x : Point). precedes p x ≡ false) (sym (same_point-true q p same)) (precedes-itself p)
-      | inr wrong ↦ absurd (both_ways false refl wrong)
-    ]
+none_later q p [] early h = search rules
 none_later q p (Wrote e ∷ xs) early h =
     elim (or_cases false (has_point q (xs ++ Reached p ∷ [])) h) [
       | inl wrong ↦ absurd (both_ways false refl wrong)
@@ -58,41 +55,27 @@ none_later q p (Reached r ∷ xs) early h =
 
 -- nothing stands after the last point
 none_after : (p : Point) (xs : List Entry) → ArePast p xs → after_point p (xs ++ Reached p ∷ []) ≡ []
-none_after p [] early = cond-true (same_point p p) [] [] (same_point-itself p)
+none_after p [] early = search rules
 none_after p (Wrote e ∷ xs) early = none_after p xs (All-tail (λ m. IsTrue (is_before p m)) (Wrote e) xs early)
-none_after p (Reached q ∷ xs) early =
-    cond-false (same_point p q) (xs ++ Reached p ∷ []) (after_point p (xs ++ Reached p ∷ [])) (precedes-other p q (All-head (λ m. IsTrue (is_before p m)) (Reached q) xs early))
-    ∙ none_after p xs (All-tail (λ m. IsTrue (is_before p m)) (Reached q) xs early)
+none_after p (Reached q ∷ xs) early = grind (arith, common_steps, cond-false (same_point p q) (xs ++ Reached p ∷ []) (after_point p (xs ++ Reached p ∷ [])) (precedes-other p q (All-head (λ m. IsTrue (is_before p m)) (Reached q) xs early)), precedes-other p q (All-head (λ m. IsTrue (is_before p m)) (Reached q) xs early), none_after p xs (All-tail (λ m. IsTrue (is_before p m)) (Reached q) xs early))
 
 -- what stands before the last point is all but it
 all_before : (p : Point) (xs : List Entry) → ArePast p xs → before_point p (xs ++ Reached p ∷ []) ≡ xs
-all_before p [] early = cond-true (same_point p p) [] (Reached p ∷ []) (same_point-itself p)
-all_before p (Wrote e ∷ xs) early = ap (λ (zs : List Entry). Wrote e ∷ zs) (all_before p xs (All-tail (λ m. IsTrue (is_before p m)) (Wrote e) xs early))
-all_before p (Reached q ∷ xs) early =
-    cond-false (same_point p q) [] (Reached q ∷ before_point p (xs ++ Reached p ∷ [])) (precedes-other p q (All-head (λ m. IsTrue (is_before p m)) (Reached q) xs early))
-    ∙ ap (λ (zs : List Entry). Reached q ∷ zs) (all_before p xs (All-tail (λ m. IsTrue (is_before p m)) (Reached q) xs early))
+all_before p [] early = search rules
+all_before p (Wrote e ∷ xs) early = grind (arith, common_steps, all_before p xs (All-tail (λ m. IsTrue (is_before p m)) (Wrote e) xs early))
+all_before p (Reached q ∷ xs) early = grind (arith, common_steps, precedes-other p q (All-head (λ m. IsTrue (is_before p m)) (Reached q) xs early), all_before p xs (All-tail (λ m. IsTrue (is_before p m)) (Reached q) xs early))
 
 -- what was touched up to now was touched up to the last point
 now_is_last : (h : Timeline) (p a : Point) → IsRising (with_point h p) → touched (with_point h p) a Now ≡ touched (with_point h p) a (At p)
-now_is_last h p a rising = touched-point a p h.entries ∙ sym (ap (λ (xs : List Entry). writes (after_point a xs)) (all_before p h.entries (past p h.entries rising)))
+now_is_last h p a rising = grind (arith, common_steps, touched-point, all_before, past)
 
 -- a span from the last point on is true of any set
 pub holds_from : (h : Timeline) (p : Point) (set : ℕ → Type 0) → IsRising (with_point h p) → SpanHolds (with_point h p) p Now set
-holds_from h p set rising = record {
-  start = last_stands p h.entries;
-  stop = refl;
-  order = refl;
-  covered = subst (All (AllBytes set)) (sym (ap writes (none_after p h.entries (past p h.entries rising)))) (All-nil (AllBytes set));
-}
+holds_from h p set rising = grind (arith, common_steps, last_stands, none_after, past)
 
 -- so is one that ends where it begins, at any moment
 pub holds_at : (h : Timeline) (p : Point) (set : ℕ → Type 0) → stands p h ≡ true → SpanHolds h p (At p) set
-holds_at h p set there = record {
-  start = there;
-  stop = there;
-  order = not_from_false (precedes p p) (precedes-itself p);
-  covered = subst (All (AllBytes set)) (sym (ap writes (none_between p h.entries))) (All-nil (AllBytes set));
-}
+holds_at h p set there = grind (arith, common_steps, not_from_false, precedes-itself, none_between)
 
 pub clear_makes : (h : Timeline) (p : Point) (recording : Bool) (set : ℕ → Type 0) → IsRising (with_point h p) → SpanIsTrue (with_point h p) (after_clear recording p) set
 clear_makes h p true set rising = holds_from h p set rising
@@ -108,12 +91,7 @@ cut_keeps h p a set rising t = record {
 }
 
 opened_keeps : (h : Timeline) (p a : Point) (set : ℕ → Type 0) → IsRising (with_point h p) → SpanHolds (with_point h p) a (At p) set → SpanHolds (with_point h p) a Now set
-opened_keeps h p a set rising t = record {
-  start = t.start;
-  stop = refl;
-  order = refl;
-  covered = subst (All (AllBytes set)) (sym (now_is_last h p a rising)) t.covered;
-}
+opened_keeps h p a set rising t = grind (arith, common_steps, now_is_last)
 
 pub disable_keeps : (h : Timeline) (p : Point) (span : Span) (set : ℕ → Type 0) → IsRising (with_point h p)
     → SpanIsTrue (with_point h p) span set → SpanIsTrue (with_point h p) (after_disable span p) set
@@ -132,7 +110,7 @@ enable_keeps h p (Known a (At b)) set rising t =
 
 pub abdication_makes : (h : Timeline) (p : Point) (recording : Bool) (set : ℕ → Type 0) → stands p h ≡ true
     → (IsTrue recording → AllTouched set h p Now) → SpanIsTrue h (after_clear recording p) set
-abdication_makes h p true set there all = record { start = there; stop = refl; order = refl; covered = all refl }
+abdication_makes h p true set there all = search rules
 abdication_makes h p false set there all = holds_at h p set there
 
 abbrev start_of : Point → Base → Point
@@ -140,24 +118,9 @@ start_of other Whole = other
 start_of other (Since a) = a
 start_of other Loose = other
 
-abbrev is_since : Base → Bool
-is_since Whole = false
-is_since (Since a) = true
-is_since Loose = false
-
-not_loose : (a : Point) → Loose ≡ Since a → ⊥
-not_loose a h = both_ways false refl (ap is_since h)
-
 pub base_holds : (h : Timeline) (p a : Point) (span : Span) (set : ℕ → Type 0) → IsRising (with_point h p) → SpanIsTrue (with_point h p) span set
     → base_of span p ≡ Since a → SpanHolds (with_point h p) a (At p) set
-base_holds h p a Unknown set rising t builds = absurd (not_loose a builds)
+base_holds h p a Unknown set rising t builds = search rules
 base_holds h p a (Known x Now) set rising t builds =
     subst (λ (y : Point). SpanHolds (with_point h p) y (At p) set) (ap (start_of a) builds) (cut_keeps h p x set rising t)
-base_holds h p a (Known x (At b)) set rising t builds =
-    elim (cases_Bool (same_point b p)) [
-      | inl same ↦
-          let is : Since x ≡ Since a = sym (cond-true (same_point b p) (Since x) Loose same) ∙ builds in
-          subst (λ (y : Point). SpanHolds (with_point h p) y (At p) set) (ap (start_of a) is)
-          (subst (λ (y : Point). SpanHolds (with_point h p) x (At y) set) (same_point-true b p same) t)
-      | inr other ↦ absurd (not_loose a (sym (cond-false (same_point b p) (Since x) Loose other) ∙ builds))
-    ]
+base_holds h p a (Known x (At b)) set rising t builds = search rules

@@ -1,20 +1,21 @@
 -- Merging at the last point: what was touched within the merged span was touched within the one or the other.
-use Rattle.std.proofs.Common.{◌≡◌, ℕ, true, false, not, ◌⊎◌, inl, inr, refl, sym, subst, List}
+use Rattle.std.proofs.Common.{◌≡◌, ℕ, true, false, not, ◌⊎◌, inl, inr, refl, sym, subst, List, rules, arith}
 use Rattle.std.specs.Prelude.{Option, Some, None, All, if◌then◌else◌}
 use Rattle.std.proofs.lemmas.List.Elements.{All-weaker}
-use Rattle.std.proofs.lemmas.Bool.{and_parts, and_from, not-true, not_from_false, both_ways, cases_Bool, cond_both}
+use Rattle.std.proofs.lemmas.Bool.{and_parts, and_from, not-true, not_from_false, cases_Bool, cond_both}
 use Rattle.span_algebra.specs.declared.points.Point.{Point}
 use Rattle.span_algebra.specs.declared.points.End.{End}
 use Rattle.span_algebra.specs.declared.points.End.TheVariants.{Now, At}
 use Rattle.span_algebra.specs.declared.spans.Span.{Span}
 use Rattle.span_algebra.specs.declared.spans.Span.TheVariants.{Unknown, Known}
-use Rattle.span_algebra.specs.Points.{precedes, not_after, earlier, later, reaches, later_end, closed_by}
+use Rattle.span_algebra.specs.Points.{precedes, not_after, earlier, reaches, later_end, closed_by}
 use Rattle.span_algebra.specs.Timelines.{Timeline, with_point, stands, end_stands, IsRising}
 use Rattle.span_algebra.specs.Spans.{AllBytes, in_either, SpanHolds, SpanIsTrue, do_meet, is_closed_at, after_merge}
-use Rattle.span_algebra.proofs.PointOrder.{precedes-to, precedes-earlier, from-earlier, before-later, from-from, later-from-earlier}
+use Rattle.span_algebra.proofs.PointOrder.{from-earlier}
 use Rattle.span_algebra.proofs.Growth.{wider, larger}
 use Rattle.span_algebra.proofs.LastPoint.{past, last_stands, none_later}
 use Rattle.span_algebra.proofs.Dates.{dated_from, is_within, precedes_end, AllWithin, end_in, touched_is_within, to_within, from_within}
+use Rattle.std.proofs.lemmas.Grind.{common_steps}
 
 end_is_in : (to : End) (h : Timeline) → end_stands to h ≡ true → end_in to h.entries ≡ true
 end_is_in Now h there = refl
@@ -40,23 +41,20 @@ holds_dated h a to set rising start stop order all = record {
 }
 
 all_both : {X : Type 0} (P Q R : X → Type 0) → ((x : X) → P x → Q x → R x) → (xs : List X) → All P xs → All Q xs → All R xs
-all_both P Q R f xs hp hq = λ k d l. f _ (hp k d l) (hq k d l)
+all_both P Q R f xs hp hq = search rules
 
 within_closed : (c p : Point) (d : End) (date : Option Point) → is_within c (At (closed_by d p)) date ≡ true → is_within c d date ≡ true
 within_closed c p d None within = within
-within_closed c p Now (Some date) within = and_from (not (precedes date c)) true (and_parts (not (precedes date c)) (precedes date p) within).0 refl
-within_closed c p (At q) (Some date) within =
-    let parts : (not (precedes date c) ≡ true) × (precedes date (earlier q p) ≡ true) = and_parts (not (precedes date c)) (precedes date (earlier q p)) within in
-    and_from (not (precedes date c)) (precedes date q) parts.0 (precedes-earlier date p q parts.1)
+within_closed c p Now (Some date) within = search rules
+within_closed c p (At q) (Some date) within = search rules
 
 stands_closed : (h : Timeline) (p : Point) (d : End) → end_stands d (with_point h p) ≡ true → stands (closed_by d p) (with_point h p) ≡ true
 stands_closed h p Now there = last_stands p h.entries
-stands_closed h p (At q) there = cond_both (precedes p q) p q (λ x. stands x (with_point h p) ≡ true) (λ _. last_stands p h.entries) (λ _. there)
+stands_closed h p (At q) there = grind (arith, common_steps)
 
 reaches_closed : (h : Timeline) (p c : Point) → IsRising (with_point h p) → stands c (with_point h p) ≡ true → (d : End) → reaches d c ≡ true → not_after c (closed_by d p) ≡ true
-reaches_closed h p c rising there Now order = not_from_false (precedes p c) (none_later c p h.entries (past p h.entries rising) there)
-reaches_closed h p c rising there (At q) order =
-    cond_both (precedes p q) p q (λ x. not_after c x ≡ true) (λ _. not_from_false (precedes p c) (none_later c p h.entries (past p h.entries rising) there)) (λ _. order)
+reaches_closed h p c rising there Now order = grind (arith, common_steps, not_from_false, none_later, past)
+reaches_closed h p c rising there (At q) order = grind (arith, common_steps, not_from_false, none_later, past)
 
 -- a closed span that begins where it ends says nothing: the source's span takes its place
 takes_place : (h : Timeline) (p c : Point) (d : End) (set more : ℕ → Type 0) → IsRising (with_point h p)
@@ -69,13 +67,13 @@ takes_place h p c d set more rising f t =
 
 to_end : (date a : Point) (d : End) → precedes date a ≡ true → reaches d a ≡ true → precedes_end date d ≡ true
 to_end date a Now h order = refl
-to_end date a (At q) h order = precedes-to date a q h (not-true (precedes q a) order)
+to_end date a (At q) h order = search rules
 
 -- a date that isn't before the one span's end lies in the other
 beyond : (date c e : Point) (b : End) → precedes_end date b ≡ false → reaches b c ≡ true → precedes_end date (later_end b (At e)) ≡ true
     → (precedes date c ≡ false) × (precedes date e ≡ true)
-beyond date c e Now past order to = absurd (both_ways true past refl)
-beyond date c e (At q) past order to = (from-from date q c past (not-true (precedes q c) order), before-later date q e to past)
+beyond date c e Now past order to = search rules
+beyond date c e (At q) past order to = search rules
 
 -- a date within the joined span is within the one or within the other
 in_one : (a c date e : Point) (b d : End) → do_meet a b c d ≡ true → (precedes date e ≡ true → precedes_end date d ≡ true)
@@ -95,11 +93,11 @@ in_one a c date e b d meet short from to =
 
 short_of : (p date : Point) (d : End) → precedes date (closed_by d p) ≡ true → precedes_end date d ≡ true
 short_of p date Now h = refl
-short_of p date (At q) h = precedes-earlier date p q h
+short_of p date (At q) h = search rules
 
 in_union : (a c p : Point) (b d : End) (date : Option Point) → do_meet a b c d ≡ true
     → is_within (earlier a c) (later_end b (At (closed_by d p))) date ≡ true → (is_within a b date ≡ true) ⊎ (is_within c d date ≡ true)
-in_union a c p b d None meet within = absurd (both_ways false refl within)
+in_union a c p b d None meet within = search rules
 in_union a c p b d (Some date) meet within =
     let parts : (not (precedes date (earlier a c)) ≡ true) × (precedes_end date (later_end b (At (closed_by d p))) ≡ true) =
     and_parts (not (precedes date (earlier a c))) (precedes_end date (later_end b (At (closed_by d p)))) within in
@@ -107,11 +105,11 @@ in_union a c p b d (Some date) meet within =
 
 later_stands : (h : Timeline) (b : End) (x : Point) → end_stands b h ≡ true → stands x h ≡ true → end_stands (later_end b (At x)) h ≡ true
 later_stands h Now x there other = refl
-later_stands h (At q) x there other = cond_both (precedes q x) x q (λ y. stands y h ≡ true) (λ _. other) (λ _. there)
+later_stands h (At q) x there other = search rules
 
 later_reaches : (a c x : Point) (b : End) → reaches b a ≡ true → reaches (later_end b (At x)) (earlier a c) ≡ true
 later_reaches a c x Now h = refl
-later_reaches a c x (At q) h = not_from_false (precedes (later q x) (earlier a c)) (later-from-earlier a q c x (not-true (precedes q a) h))
+later_reaches a c x (At q) h = search rules
 
 -- the span of two that meet
 joins : (h : Timeline) (p a c : Point) (b d : End) (one other both : ℕ → Type 0) → IsRising (with_point h p) → ((x : ℕ) → in_either one other x → both x)
@@ -133,7 +131,7 @@ joins h p a c b d one other both rising union meet t s =
 pub merge_keeps : (h : Timeline) (p : Point) (target source : Span) (one other both : ℕ → Type 0) → IsRising (with_point h p) → ((x : ℕ) → in_either one other x → both x)
     → SpanIsTrue (with_point h p) target one → SpanIsTrue (with_point h p) source other → SpanIsTrue (with_point h p) (after_merge target source p) both
 merge_keeps h p Unknown source one other both rising union t s = tt
-merge_keeps h p (Known a b) Unknown one other both rising union t s = larger (with_point h p) (Known a b) one both (λ x here. union x (inl here)) t
+merge_keeps h p (Known a b) Unknown one other both rising union t s = search rules
 merge_keeps h p (Known a b) (Known c d) one other both rising union t s =
     let joined : Span = if do_meet a b c d then Known (earlier a c) (later_end b (At (closed_by d p))) else Known a b in
     cond_both (is_closed_at a b) (Known c (At (closed_by d p))) joined (λ span. SpanIsTrue (with_point h p) span both)

@@ -23,16 +23,19 @@ pub fn clearing_makes_true()
 {}
 
 /// Disabling at the last point keeps a span true.
+#[tactic(auto, using(crate::proofs::LastPoint::disable_keeps))]
 pub fn disabling_keeps_true()
     ensures { DisablingKeepsTrue }
 {}
 
 /// Enabling at the last point keeps a span true.
+#[tactic(auto, using(crate::proofs::LastPoint::enable_keeps))]
 pub fn enabling_keeps_true()
     ensures { EnablingKeepsTrue }
 {}
 
 /// Merging at the last point gives a span that is true of each set that has both bitmaps' sets.
+#[tactic(auto, using(crate::proofs::Merging::merge_keeps))]
 pub fn merging_keeps_true()
     ensures { MergingKeepsTrue }
 {}
@@ -48,6 +51,7 @@ pub fn abdication_makes_true()
 {}
 
 /// A span stays true at a write; one that ends at now, where its set grows by the write's bytes.
+#[tactic(auto, using(crate::proofs::Growth::write_keeps, crate::proofs::Growth::larger))]
 pub fn write_keeps_true()
     ensures { WriteKeepsTrue }
 {}

@@ -1,8 +1,7 @@
-use Rattle.std.proofs.Common.{◌≡◌, ◌≢◌, ◌↔◌, ℕ, ◌+◌, ◌-◌, ◌/◌, ◌%◌, ◌^◌, ◌<◌, subst, get_or, drop, length, List, sym, ap, ◌∙◌, arith}
+use Rattle.std.proofs.Common.{◌≡◌, ◌≢◌, ◌↔◌, ℕ, ◌+◌, ◌-◌, ◌/◌, ◌%◌, ◌^◌, ◌<◌, subst, get_or, drop, length, List, sym, ap, ◌∙◌, arith, length-drop}
 use Rattle.std.specs.Prelude.{IsTrue, SomeIndex, nat_eq}
 use Rattle.std.proofs.lemmas.Bool.{not_from_false, ne_eqb}
 use Rattle.std.proofs.lemmas.List.{get_or-drop, take_all}
-use Rattle.std.proofs.Common.{length-drop}
 use Rattle.bits_granular.proofs.Octets.{tail_in_first, tail_in_other, tail_elsewhere}
 use Rattle.bits_granular.proofs.spelling.has_tail.Goals as goal
 

@@ -3,8 +3,8 @@ use Rattle.span_algebra.specs.Spans.{granule}
 use Rattle.bitmap_model.specs.Granules.{GranuleSet, is_in, marked, merged}
 use Rattle.bitmap_model.proofs.Sets.{get_or-any}
 use Rattle.bits_granular.proofs.Merging.{merged_none, merged_with, merged_without, merged_all, merged_below}
-use Rattle.bits_granular.proofs.bits.GranularBits.merge_from.Goals as goal
 use Rattle.bits_granular.proofs.bits.GranularBits.merge_from.Goals.{then-index, else-index}
+use Rattle.bits_granular.proofs.bits.GranularBits.merge_from.Goals as goal
 
 pub loop-number-init : goal.loop-number-init
 loop-number-init c = merged_none c.args.self.now c.other.inside.granularity c.other.inside.dirty.items
