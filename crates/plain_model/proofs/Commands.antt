@@ -17,7 +17,7 @@ use Rattle.script_model.specs.Recording.{is_drive}
 use Rattle.plain_model.specs.Machine.{Machine, size_of, live_view}
 use Rattle.plain_model.specs.Laws.{IsFit}
 use Rattle.plain_model.specs.Actions.{Held, Hindrance, RefusedAt, transact}
-use Rattle.plain_model.specs.Queries.{most_exports, job_infos, node_infos, absent_bitmap, export_refusal, with_export}
+use Rattle.plain_model.specs.Queries.{most_exports, job_infos, node_infos, export_tests, export_refusal, with_export}
 use Rattle.plain_model.specs.Outcome.{Outcome, answered, after_transaction, after_cancel, unless_wanting, after_export, number_in, command}
 use Rattle.plain_model.specs.Sound.{have_one_export_id, have_one_export_name, AreSoundExports, IsSound}
 use Rattle.plain_model.proofs.Inserting.{differ_push}
@@ -34,17 +34,6 @@ pub record IsAddableExport (a : ExportArgs) (m : Machine) : Type 0 where
   pub new_id : list_any (have_one_export_id a) m.exports ≡ false
   pub new_name : list_any (have_one_export_name a) m.exports ≡ false
   pub few : length m.exports < most_exports
-
--- the tests, in their order
-abbrev export_tests : ExportArgs → Machine → List (Option Refusal)
-export_tests a m =
-    then_some (not (is_drive a.node) && is_none (live_view a.node m)) (NodeUnknown a.node)
-    ∷ then_some (not (is_drive a.node) && a.writable) (ReadOnlyNode a.node)
-    ∷ then_some (list_any (λ (e : ExportArgs). bytes_eq a.id e.id) m.exports) (ExportTaken a.id)
-    ∷ then_some (list_any (λ (e : ExportArgs). bytes_eq a.name e.name) m.exports) (ExportTaken a.name)
-    ∷ then_some (nat_le most_exports (length m.exports)) (TooManyExports most_exports)
-    ∷ absent_bitmap a.bitmaps m
-    ∷ []
 
 addable : (a : ExportArgs) (m : Machine) → AllNone (export_tests a m) → IsAddableExport a m
 addable a m t = record {

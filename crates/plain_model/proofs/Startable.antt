@@ -15,8 +15,8 @@ use Rattle.script_model.specs.Recording.{is_drive}
 use Rattle.plain_model.specs.Space.{Store}
 use Rattle.plain_model.specs.Jobs.{has_id}
 use Rattle.plain_model.specs.Machine.{Machine, size_of, runners, has_target}
-use Rattle.plain_model.specs.Requests.{first_of}
-use Rattle.plain_model.specs.Actions.{Held, Absent, Faulty, Target, is_file_name, held_refusal, target_refusal, bitmap_refusal, unusable, uses_bitmap, is_incremental, is_never, most_jobs, is_target_busy, backup_refusal}
+use Rattle.monitor_model.specs.Commands.{first_of}
+use Rattle.plain_model.specs.Actions.{Held, Absent, Faulty, Target, is_file_name, held_refusal, target_refusal, bitmap_refusal, unusable, uses_bitmap, is_incremental, is_never, most_jobs, is_target_busy, backup_tests, backup_refusal}
 
 -- ---- tests that find nothing
 
@@ -82,22 +82,6 @@ pub record IsStartable (held : List ℕ → Held) (a : BackupArgs) (m : Machine)
   pub off_drive : is_drive a.target ≡ false
   pub new_target : list_any (has_target a.target) (runners m) ≡ false
   pub target : IsTargetOf (size_of m) (held a.target)
-
--- the tests, in their order
-abbrev backup_tests : (List ℕ → Held) → (List ℕ → Bool) → BackupArgs → Machine → List (Option Refusal)
-backup_tests held unread a m =
-    then_some (not (is_drive a.device)) (NodeUnknown a.device)
-    ∷ then_some (list_any (has_id a.job) (runners m)) (JobTaken a.job)
-    ∷ then_some (nat_le most_jobs (length (runners m))) (TooManyJobs most_jobs)
-    ∷ then_some (uses_bitmap a.sync && is_none a.bitmap) BitmapNeeded
-    ∷ then_some (not (uses_bitmap a.sync) && is_some a.bitmap) (BitmapForbidden (unwrap_or a.bitmap []))
-    ∷ then_some (is_incremental a.sync && is_never a.mode) (BitmapForbidden (codes "never"))
-    ∷ option_and_then (λ name. unusable name m) a.bitmap
-    ∷ option_map SourceBroken m.broken
-    ∷ then_some (is_target_busy a.target m) (TargetBusy a.target)
-    ∷ then_some (is_file_name a.target && unread a.target) (DeviceFailed a.target)
-    ∷ target_refusal (size_of m) a.target (held a.target)
-    ∷ []
 
 startable : (held : List ℕ → Held) (unread : List ℕ → Bool) (a : BackupArgs) (m : Machine) → AllNone (backup_tests held unread a m) → IsStartable held a m
 startable held unread a m t =
