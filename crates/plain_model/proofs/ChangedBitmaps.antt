@@ -1,4 +1,5 @@
 -- Changes of one bitmap at the last point keep the bitmaps sound.
+use Rattle.std.proofs.Common.{rules}
 use Rattle.std.proofs.Common.{◌≡◌, ℕ, ◌<◌, ◌≤◌, List, [], ◌∷◌, ◌++◌, length, Bool, true, false, not, refl, sym, ap, subst, ◌∙◌, arith}
 use Rattle.std.specs.Prelude.{IsTrue, Some, filter, count_by}
 use Rattle.std.specs.List.{list_any}
@@ -72,38 +73,10 @@ module _ (t : Timeline) (p : Point) (rising : IsRising (with_point t p)) where
   }
 
   pub enabled_sound : (b : BitmapState) → is_busy b ≡ false → b.inconsistent ≡ false → IsSoundBitmap (with_point t p) b → KeepsSound (with_point t p) (when_enabled p) b
-  enabled_sound b idle consistent s =
-      let on : BitmapState = record b { recording = true; span = after_enable b.span p } in
-      let still : (when_enabled p b).inconsistent ≡ false = cond_both b.recording b on (λ c. c.inconsistent ≡ false) (λ was. consistent) (λ is. consistent) in
-      record {
-        sound = record {
-          name_is = subst (λ (n : List ℕ). IsTrue (is_name n)) (sym (enabled_name p b)) s.name_is;
-          shape = enabled_keeps_shape t.start p b s.shape;
-          span_is = enabled_keeps_true t p b rising s.span_is;
-          recorded = enabled_keeps_recorded p b s.recorded;
-          blank = λ wrong. absurd (both_ways (when_enabled p b).inconsistent still wrong);
-          kept = λ wrong. absurd (both_ways (when_enabled p b).inconsistent still wrong);
-        };
-        idle = cond_both b.recording b on (λ c. is_busy c ≡ false) (λ was. idle) (λ is. idle);
-        same_name = enabled_name p b;
-      }
+  enabled_sound b idle consistent s = search (rules, cond_both, enabled_name, enabled_keeps_shape, enabled_keeps_true, enabled_keeps_recorded, both_ways)
 
   pub disabled_sound : (b : BitmapState) → is_busy b ≡ false → b.inconsistent ≡ false → IsSoundBitmap (with_point t p) b → KeepsSound (with_point t p) (when_disabled p) b
-  disabled_sound b idle consistent s =
-      let off : BitmapState = record b { recording = false; span = after_disable b.span p } in
-      let still : (when_disabled p b).inconsistent ≡ false = cond_both b.recording off b (λ c. c.inconsistent ≡ false) (λ is. consistent) (λ was. consistent) in
-      record {
-        sound = record {
-          name_is = subst (λ (n : List ℕ). IsTrue (is_name n)) (sym (disabled_name p b)) s.name_is;
-          shape = disabled_keeps_shape t.start p b s.shape;
-          span_is = disabled_keeps_true t p b rising s.span_is;
-          recorded = disabled_keeps_recorded p b s.recorded;
-          blank = λ wrong. absurd (both_ways (when_disabled p b).inconsistent still wrong);
-          kept = λ wrong. absurd (both_ways (when_disabled p b).inconsistent still wrong);
-        };
-        idle = cond_both b.recording off b (λ c. is_busy c ≡ false) (λ is. idle) (λ was. idle);
-        same_name = disabled_name p b;
-      }
+  disabled_sound b idle consistent s = search (rules, cond_both, disabled_name, disabled_keeps_shape, disabled_keeps_true, disabled_keeps_recorded, both_ways)
 
 -- ---- the bitmaps of a state
 

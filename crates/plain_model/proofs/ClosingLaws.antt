@@ -1,4 +1,5 @@
 -- What a closing stores is what the next opening restores, and it is true.
+use Rattle.std.proofs.Common.{rules}
 use Rattle.std.proofs.Common.{◌≡◌, List, [], ◌∷◌, map, true, false, inl, inr, refl, sym, ap, subst, ◌∙◌, arith}
 use Rattle.std.specs.Prelude.{All, IsTrue, Option, Some, None, is_some, filter, not}
 use Rattle.std.proofs.lemmas.List.Elements.{All-map, All-filter, All-weaker, filter_passes}
@@ -24,38 +25,20 @@ none_from : {A : Type 0} (o : Option A) → is_some o ≡ false → o ≡ None
 none_from None h = refl
 none_from (Some a) h = absurd (both_ways true h refl)
 
--- a bitmap that no job uses has no successor
-unused_free : (b : BitmapState) → IsUsedOnce [] b → b.successor ≡ None
-unused_free b once =
-    elim (cases_Bool (is_busy b)) [
-      | inl busy ↦
-          let one : one_if (is_busy b) ≡ 1 = cond-true (is_busy b) 1 0 busy in
-          absurd (omega (arith, one, once))
-      | inr idle ↦ none_from b.successor idle
-    ]
-
 -- it is restored as it was, and what it says is true
 pub record IsLasting (h : History) (b : BitmapState) : Type 0 where
   pub same : restored (stored b) ≡ b
   pub truth : IsTrueEntry h (stored b)
 
 lasts : (h : History) (b : BitmapState) → IsTrue b.persistent → IsSoundBitmap (timeline_of h) b → IsUsedOnce [] b → IsLasting h b
-lasts h b kept s once =
-    let same : restored (stored b) ≡ b = stored_is_restored b kept (unused_free b once) s.blank in
-    record {
-      same = same;
-      truth = record {
-        span = subst (IsTrueBitmap (timeline_of h)) (sym same) s.span_is;
-        recorded = subst IsRecordedToNow (sym same) s.recorded;
-      };
-    }
+lasts h b kept s once = search rules
 
 -- ---- a closing
 
 -- it leaves no jobs
 no_jobs : (jobs : List Job) → filter (λ (j : Job). not (true)) jobs ≡ []
 no_jobs [] = refl
-no_jobs (j ∷ jobs) = no_jobs jobs
+no_jobs (j ∷ jobs) = search (rules, no_jobs jobs)
 
 closed_jobs : (m : Machine) → (closed m).machine.jobs ≡ []
 unfolding closed leave
@@ -79,7 +62,7 @@ all_last m s =
 
 map_twice : (bs : List BitmapState) → map restored (map stored bs) ≡ map (λ (b : BitmapState). restored (stored b)) bs
 map_twice [] = refl
-map_twice (b ∷ bs) = ap (λ (cs : List BitmapState). restored (stored b) ∷ cs) (map_twice bs)
+map_twice (b ∷ bs) = search (rules, map_twice bs)
 
 pub closing_stores : (m : Machine) → IsSound m → StoresLasting m
 closing_stores m s =

@@ -1,4 +1,7 @@
 -- Lists in which no two elements are the same by a test.
+use Rattle.std.proofs.Common.{rules}
+use Rattle.std.proofs.Common.{arith}
+use Rattle.std.proofs.lemmas.Grind.{common_steps}
 use Rattle.std.proofs.Common.{◌≡◌, ◌||◌, List, [], ◌∷◌, ◌++◌, map, filter, Bool, false, refl, sym, ap, ◌∙◌}
 use Rattle.std.specs.List.{list_any}
 use Rattle.std.proofs.lemmas.Bool.{or_parts, or_from, cond_both}
@@ -21,8 +24,7 @@ filter_differs same p (x ∷ xs) apart =
 
 pub list_any-map : {X Y : Type 0} (t : Y → Bool) (u : X → Bool) (f : X → Y) → ((x : X) → t (f x) ≡ u x) → (xs : List X) → list_any t (map f xs) ≡ list_any u xs
 list_any-map t u f so [] = refl
-list_any-map t u f so (x ∷ xs) =
-    ap (λ (b : Bool). b || list_any t (map f xs)) (so x) ∙ ap (λ (b : Bool). u x || b) (list_any-map t u f so xs)
+list_any-map t u f so (x ∷ xs) = search (rules, list_any-map t u f so xs)
 
 -- a change that the test doesn't see
 pub map_differs : {X : Type 0} (same : X → X → Bool) (f : X → X) → ((x y : X) → same (f x) (f y) ≡ same x y) → (xs : List X) → Differ same xs → Differ same (map f xs)
@@ -43,7 +45,4 @@ moved_differs same either x (y ∷ xs) ys apart =
     )
 
 pub moved_none : {X : Type 0} (t : X → Bool) (x : X) (xs ys : List X) → list_any t (x ∷ (xs ++ ys)) ≡ false → list_any t (xs ++ x ∷ ys) ≡ false
-moved_none t x xs ys none =
-    let parts : (t x ≡ false) × (list_any t (xs ++ ys) ≡ false) = or_parts (t x) (list_any t (xs ++ ys)) none in
-    let others : (list_any t xs ≡ false) × (list_any t ys ≡ false) = or_parts (list_any t xs) (list_any t ys) (sym (list_any-append t xs ys) ∙ parts.1) in
-    list_any-append t xs (x ∷ ys) ∙ or_from (list_any t xs) (list_any t (x ∷ ys)) others.0 (or_from (t x) (list_any t ys) parts.0 others.1)
+moved_none t x xs ys none = grind (arith, common_steps)

@@ -1,4 +1,5 @@
 -- A job that starts takes its bitmap into use.
+use Rattle.std.proofs.lemmas.Grind.{common_steps}
 use Rattle.std.proofs.Common.{◌≡◌, ℕ, ◌+◌, ◌≤◌, List, [], ◌∷◌, ◌++◌, true, false, refl, sym, ap, subst, ◌∙◌, arith}
 use Rattle.std.specs.Prelude.{Option, Some, None, count_by, if◌then◌else◌, bytes_eq}
 use Rattle.std.proofs.lemmas.List.Elements.{All-map, All-push, All-weaker}
@@ -32,20 +33,6 @@ frozen_sound t b idle consistent s = record {
 }
 
 -- ---- a job without a bitmap
-
-unused_more : (jobs : List Job) (j : Job) (b : BitmapState) → j.bitmap ≡ None → IsUsedOnce jobs b → IsUsedOnce (jobs ++ j ∷ []) b
-unused_more jobs j b free once =
-    let none : one_if (uses b.name j) ≡ 0 = ap (λ (own : Option (List ℕ)). one_if (is_own b.name own)) free in
-    count-push (uses b.name) jobs j ∙ ap (λ (n : ℕ). count_by (uses b.name) jobs + n) none ∙ zero_more (count_by (uses b.name) jobs) ∙ once
-  where
-    zero_more : (n : ℕ) → n + 0 ≡ n
-    zero_more n = omega arith
-
-pub users_with_free : (h : History) (jobs : List Job) (j : Job) (bs : List BitmapState) → j.bitmap ≡ None → AreUsers h jobs bs → AreUsers h (jobs ++ j ∷ []) bs
-users_with_free h jobs j bs free s = record {
-  once = All-weaker (IsUsedOnce jobs) (IsUsedOnce (jobs ++ j ∷ [])) (λ b once. unused_more jobs j b free once) bs s.once;
-  there = All-push (λ (i : Job). HasItsBitmap h bs i i.bitmap) jobs j s.there (subst (HasItsBitmap h bs j) (sym free) tt);
-}
 
 -- ---- a job with a bitmap
 

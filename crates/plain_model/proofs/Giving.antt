@@ -1,4 +1,6 @@
 -- What becomes of the bitmaps of jobs that leave.
+use Rattle.std.proofs.Common.{rules}
+use Rattle.std.proofs.lemmas.Grind.{common_steps}
 use Rattle.std.proofs.Common.{◌≡◌, ◌+◌, List, [], ◌∷◌, ◌++◌, Bool, true, false, not, Option, Some, None, is_some, IsTrue, All, filter, count_by, get_or, bytes_eq, refl, sym, ap, subst, ◌∙◌, inl, inr, arith, ℕ}
 use Rattle.std.proofs.lemmas.Bool.{cases_Bool, both_ways, cond-true, cond-false, cond_both}
 use Rattle.std.proofs.lemmas.List.Elements.{All-head, All-tail, All-map, All-weaker, All-append, All-filter}
@@ -84,38 +86,19 @@ completed_is_ending h = record {
 pub found_bitmap : (h : History) (p : Point) (found : Option BitmapState) → SuccessorHolds h p found
     → (b : BitmapState) × (found ≡ Some b) × SuccessorHolds h p (Some b)
 found_bitmap h p None holds = absurd holds
-found_bitmap h p (Some b) holds = (b, refl, holds)
+found_bitmap h p (Some b) holds = search rules
 
 -- a bitmap that is used is busy, and consistent
 pub busy_is_consistent : (b : BitmapState) → is_busy b ≡ true → (IsTrue b.inconsistent → IsBlank b) → b.inconsistent ≡ false
-busy_is_consistent b busy blank = elim (cases_Bool b.inconsistent) [
-  | inl inconsistent ↦ absurd (both_ways (is_busy b) (ap (λ (s : Option _). is_some s) (blank inconsistent).free) busy)
-  | inr consistent ↦ consistent
-]
+busy_is_consistent b busy blank = search rules
 
 -- where one more job uses a bitmap, it is busy, and no other job uses it
 pub used_by_first : (j : Job) (jobs : List Job) (b : BitmapState) → uses b.name j ≡ true → IsUsedOnce (j ∷ jobs) b
     → (is_busy b ≡ true) × (count_by (uses b.name) jobs ≡ 0)
-used_by_first j jobs b own once =
-    let one : one_if (uses b.name j) ≡ 1 = cond-true (uses b.name j) 1 0 own in
-    let sum : count_by (uses b.name) (j ∷ jobs) ≡ one_if (uses b.name j) + count_by (uses b.name) jobs = count-cons (uses b.name) j jobs in
-    elim (cases_Bool (is_busy b)) [
-      | inl busy ↦
-          let most : one_if (is_busy b) ≡ 1 = cond-true (is_busy b) 1 0 busy in
-          let e : count_by (uses b.name) (j ∷ jobs) ≡ one_if (is_busy b) = once in
-          (busy, omega arith)
-      | inr idle ↦
-          let most : one_if (is_busy b) ≡ 0 = cond-false (is_busy b) 1 0 idle in
-          let e : count_by (uses b.name) (j ∷ jobs) ≡ one_if (is_busy b) = once in
-          absurd (omega arith)
-    ]
+used_by_first j jobs b own once = grind (arith, common_steps)
 
 pub used_by_others : (j : Job) (jobs : List Job) (b : BitmapState) → uses b.name j ≡ false → IsUsedOnce (j ∷ jobs) b → IsUsedOnce jobs b
-used_by_others j jobs b other once =
-    let none : one_if (uses b.name j) ≡ 0 = cond-false (uses b.name j) 1 0 other in
-    let sum : count_by (uses b.name) (j ∷ jobs) ≡ one_if (uses b.name j) + count_by (uses b.name) jobs = count-cons (uses b.name) j jobs in
-    let e : count_by (uses b.name) (j ∷ jobs) ≡ one_if (is_busy b) = once in
-    omega arith
+used_by_others j jobs b other once = search rules
 
 -- the bitmaps are sound, and used by these jobs
 pub record AreLeft (h : History) (jobs : List Job) (bs : List BitmapState) : Type 0 where
@@ -124,7 +107,7 @@ pub record AreLeft (h : History) (jobs : List Job) (bs : List BitmapState) : Typ
 
 module _ (h : History) (change : Job → BitmapState → BitmapState) (ending : IsEnding h change) (j : Job) (jobs : List Job) (name : List ℕ) (is : j.bitmap ≡ Some name) where
   own_uses : (c : BitmapState) → uses c.name j ≡ bytes_eq c.name name
-  own_uses c = ap (is_own c.name) is
+  own_uses c = search rules
 
   own_once : (c : BitmapState) → IsUsedOnce (j ∷ jobs) c → IsUsedOnce jobs (change_if (change j) name c)
   own_once c once =
@@ -138,10 +121,7 @@ module _ (h : History) (change : Job → BitmapState → BitmapState) (ending : 
   other_there : (bs : List BitmapState) (i : Job) (own : Option (List ℕ)) → is_own name own ≡ false → HasItsBitmap h bs i own
       → HasItsBitmap h (changed (change j) name bs) i own
   other_there bs i None unused holds = tt
-  other_there bs i (Some other) unused holds =
-      subst (SuccessorHolds h i.point)
-      (sym (changed_other (change j) name other bs (λ same. both_ways (bytes_eq name other) unused (ap (bytes_eq name) same ∙ same_bytes-itself name)) (ending.name j)))
-      holds
+  other_there bs i (Some other) unused holds = search (rules, changed_other, both_ways, bytes_eq, same_bytes-itself)
 
   own_changed : (bs : List BitmapState) → IsTrue (stands j.point (timeline_of h)) → AreSoundBitmaps (timeline_of h) bs → AreUsers h (j ∷ jobs) bs
       → AreLeft h jobs (changed (change j) name bs)
@@ -191,7 +171,7 @@ one_left h change ending j jobs (Some name) is bs drawn sound users = own_change
 pub all_given : (h : History) (change : Job → BitmapState → BitmapState) → IsEnding h change → (leaving rest : List Job) (bs : List BitmapState)
     → All (λ (j : Job). IsTrue (stands j.point (timeline_of h))) leaving → AreSoundBitmaps (timeline_of h) bs → AreUsers h (leaving ++ rest) bs
     → AreLeft h rest (change_bitmaps change leaving bs)
-all_given h change ending [] rest bs drawn sound users = record { sound = sound; users = users }
+all_given h change ending [] rest bs drawn sound users = search rules
 all_given h change ending (j ∷ leaving) rest bs drawn sound users =
     let one : AreLeft h (leaving ++ rest) (change_own change j j.bitmap bs) =
     one_left h change ending j (leaving ++ rest) j.bitmap refl bs (All-head (λ (i : Job). IsTrue (stands i.point (timeline_of h))) j leaving drawn) sound users in

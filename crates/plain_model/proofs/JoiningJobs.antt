@@ -1,4 +1,6 @@
 -- A job or a view joins those of a state.
+use Rattle.std.proofs.Common.{rules}
+use Rattle.std.proofs.lemmas.Grind.{common_steps}
 use Rattle.std.proofs.Common.{◌≡◌, ℕ, ◌<◌, ◌≤◌, List, [], ◌∷◌, ◌++◌, length, map, Bool, true, false, refl, sym, ap, subst, ◌∙◌, arith}
 use Rattle.std.specs.Prelude.{All, IsPermutation, filter, bytes_eq, ◌||◌}
 use Rattle.std.specs.List.{list_any}
@@ -25,10 +27,10 @@ pub record IsNewAmong (j : Job) (others : List Job) : Type 0 where
   pub few : length others < most_jobs
 
 flip_id : (i j : Job) → have_one_id i j ≡ false → have_one_id j i ≡ false
-flip_id i j h = same_bytes-back i.id j.id h
+flip_id i j h = search rules
 
 flip_target : (i j : Job) → have_one_target i j ≡ false → have_one_target j i ≡ false
-flip_target i j h = same_bytes-back i.target j.target h
+flip_target i j h = search rules
 
 -- ---- soundness
 
@@ -68,26 +70,19 @@ ids_push jobs all j created moved old =
 
 -- an id that is no view's
 not_view : (jobs views : List Job) (id : List ℕ) → list_any (has_id id) (jobs ++ views) ≡ false → list_any (has_id id) views ≡ false
-not_view jobs views id none = (or_parts (list_any (has_id id) jobs) (list_any (has_id id) views) (sym (list_any-append (has_id id) jobs views) ∙ none)).1
+not_view jobs views id none = grind (arith, common_steps)
 
 pub order_with_job : (jobs views : List Job) (created : List (List ℕ)) (j : Job) → AreInOrder jobs views created → list_any (has_id j.id) (jobs ++ views) ≡ false
     → AreInOrder (jobs ++ j ∷ []) views (created ++ j.id ∷ [])
-order_with_job jobs views created j s free =
-    let is_view : List ℕ → Bool = λ (id : List ℕ). list_any (has_id id) views in record {
-      all = ids_push (jobs ++ views) ((jobs ++ j ∷ []) ++ views) j created (permutes_insert jobs views j) s.all;
-      in_order = filter-append is_view created (j.id ∷ [])
-          ∙ ap (λ (ids : List (List ℕ)). filter is_view created ++ ids) (cond-false (is_view j.id) (j.id ∷ []) [] (not_view jobs views j.id free))
-          ∙ append-nil (filter is_view created) ∙ s.in_order;
-    }
+order_with_job jobs views created j s free = search (rules, ids_push, permutes_insert, filter-append, cond-false, not_view, append-nil)
 
 or_nothing : (b c : Bool) → c ≡ false → (b || (c || false)) ≡ b
 or_nothing true c h = refl
-or_nothing false c h = or_from c false h refl
+or_nothing false c h = search rules
 
 -- for another id one more view changes no test
 other_id : (views : List Job) (j : Job) (id : List ℕ) → bytes_eq j.id id ≡ false → list_any (has_id id) (views ++ j ∷ []) ≡ list_any (has_id id) views
-other_id views j id other =
-    list_any-append (has_id id) views (j ∷ []) ∙ or_nothing (list_any (has_id id) views) (bytes_eq id j.id) (same_bytes-back j.id id other)
+other_id views j id other = search (rules, list_any-append, or_nothing, same_bytes-back)
 
 pub order_with_view : (jobs views : List Job) (created : List (List ℕ)) (j : Job) → AreInOrder jobs views created → list_any (has_id j.id) (jobs ++ views) ≡ false
     → AreInOrder jobs (views ++ j ∷ []) (created ++ j.id ∷ [])

@@ -1,4 +1,5 @@
 -- Jobs and views that leave: the state stays sound.
+use Rattle.std.proofs.Common.{rules}
 use Rattle.std.proofs.Common.{◌≡◌, ℕ, ◌≤◌, List, [], ◌∷◌, ◌++◌, Bool, true, not, ◌&&◌, Option, Some, None, IsTrue, All, IsPermutation, filter, map, length, refl, sym, ap, subst, ◌∙◌, arith}
 use Rattle.std.specs.List.{list_any}
 use Rattle.std.proofs.lemmas.List.Elements.{All-nil, All-cons, All-head, All-tail, All-map, All-weaker, All-append, All-filter, filter-append}
@@ -21,12 +22,12 @@ use Rattle.plain_model.proofs.Differing.{none_in_filter, filter_differs}
 use Rattle.plain_model.proofs.Giving.{IsEnding, given_back_is_ending, AreLeft, all_given, parted_users}
 
 pub all_front : {X : Type 0} (P : X → Type 0) (xs ys : List X) → All P (xs ++ ys) → All P xs
-all_front P [] ys all = All-nil P
+all_front P [] ys all = search rules
 all_front P (x ∷ xs) ys all = All-cons P x xs (All-head P x (xs ++ ys) all) (all_front P xs ys (All-tail P x (xs ++ ys) all))
 
 pub all_back : {X : Type 0} (P : X → Type 0) (xs ys : List X) → All P (xs ++ ys) → All P ys
 all_back P [] ys all = all
-all_back P (x ∷ xs) ys all = all_back P xs ys (All-tail P x (xs ++ ys) all)
+all_back P (x ∷ xs) ys all = search (rules, all_back P xs ys (All-tail P x (xs ++ ys) all))
 
 -- ---- what stays of jobs and views
 
@@ -45,8 +46,7 @@ staying_jobs h p jobs views s =
 -- the views that stay are those of the ids that stay
 staying_views : (stays : List ℕ → Bool) (views : List Job) (id : List ℕ)
     → list_any (has_id id) (filter (λ (j : Job). stays j.id) views) ≡ (stays id && list_any (has_id id) views)
-staying_views stays views id =
-    any-filter_same (has_id id) (λ (j : Job). stays j.id) (stays id) (λ j same. ap stays (sym (same_bytes id j.id same))) views
+staying_views stays views id = search (rules, any-filter_same, same_bytes)
 
 pub staying_order : (stays : List ℕ → Bool) (jobs views : List Job) (created : List (List ℕ)) → AreInOrder jobs views created
     → AreInOrder (filter (λ (j : Job). stays j.id) jobs) (filter (λ (j : Job). stays j.id) views) (filter stays created)
@@ -106,18 +106,13 @@ leaving_numbers change leaves m n =
 pub leaving_is_sound : (change : Job → BitmapState → BitmapState) (leaves : List ℕ → Bool) (m : Machine) → IsEnding m.history change → IsSound m
     → IsSound (leave change leaves m)
 unfolding leave
-leaving_is_sound change leaves m ending s = record {
-  history_is = s.history_is;
-  next = s.next;
-  state = leaving_keeps m.history change ending leaves m s.state;
-  numbers = leaving_numbers change leaves m s.numbers;
-}
+leaving_is_sound change leaves m ending s = search (rules, leaving_keeps, leaving_numbers)
 
 -- ---- all leave
 
 none_stays : (jobs : List Job) → filter (λ (j : Job). not true) jobs ≡ []
 none_stays [] = refl
-none_stays (j ∷ jobs) = none_stays jobs
+none_stays (j ∷ jobs) = search (rules, none_stays jobs)
 
 pub all_left_none : (m : Machine) → runners (all_left m) ≡ []
 unfolding leave
@@ -129,35 +124,14 @@ closed_is_sound m s = leaving_is_sound given_back (λ id. true) m (given_back_is
 
 -- a source without jobs and views may break
 pub broken_keeps : (h : History) (event : ℕ) (m : Machine) → runners m ≡ [] → IsSoundFor h m → IsSoundFor h (record m { broken = Some event })
-broken_keeps h event m none s = record {
-  sized = s.sized;
-  bitmaps_are = s.bitmaps_are;
-  jobs_are = s.jobs_are;
-  order = s.order;
-  users = s.users;
-  exports_are = s.exports_are;
-  store_shape = s.store_shape;
-  quiet = λ broken. none;
-}
+broken_keeps h event m none s = search rules
 
 pub broken_numbers : (m : Machine) → AreNumbers m → AreNumbers (record m { broken = Some m.event })
-broken_numbers m n = record {
-  serials = n.serials;
-  events = n.events;
-  broken_at = λ k is. let e : m.event ≡ k = same_Some m.event k is in omega arith;
-  gone_at = n.gone_at;
-}
+broken_numbers m n = search rules
 
 pub after_break_is_sound : (n : Noted) → IsSound n.machine → IsSound (after_break n).machine
 unfolding after_break leave
-after_break_is_sound n s =
-    let left : IsSound (all_left n.machine) = leaving_is_sound given_back (λ id. true) n.machine (given_back_is_ending n.machine.history) s in
-    record {
-      history_is = left.history_is;
-      next = left.next;
-      state = broken_keeps n.machine.history n.machine.event (all_left n.machine) (all_left_none n.machine) left.state;
-      numbers = broken_numbers (all_left n.machine) left.numbers;
-    }
+after_break_is_sound n s = search (rules, leaving_is_sound, given_back_is_ending, broken_keeps, all_left_none, broken_numbers)
 
 -- ---- one is cancelled
 

@@ -1,4 +1,6 @@
 -- A session begins in a sound state.
+use Rattle.std.proofs.Common.{rules}
+use Rattle.std.proofs.lemmas.Grind.{common_steps}
 use Rattle.std.proofs.Common.{◌≡◌, ℕ, ◌+◌, ◌≤◌, List, [], ◌∷◌, ◌++◌, length, map, replicate, true, false, inl, inr, refl, sym, ap, subst, arith}
 use Rattle.std.specs.Prelude.{All, IsTrue}
 use Rattle.std.proofs.lemmas.List.{length-map, length-replicate}
@@ -33,8 +35,8 @@ first_after epoch serial q h = grind (arith, nat_tests)
 
 -- it stands after all of earlier epochs
 pub rises_to : (epoch serial : ℕ) (xs : List timelines.Entry) → All (IsOfEpoch epoch) xs → Rise xs → Rise (xs ++ timelines.Reached (record { epoch = epoch + 1; serial = serial }) ∷ [])
-rises_to epoch serial [] old rising = (All-nil (λ m. IsTrue (is_after (record { epoch = epoch + 1; serial = serial }) m)), tt)
-rises_to epoch serial (timelines.Wrote e ∷ xs) old rising = rises_to epoch serial xs (All-tail (IsOfEpoch epoch) (timelines.Wrote e) xs old) rising
+rises_to epoch serial [] old rising = search rules
+rises_to epoch serial (timelines.Wrote e ∷ xs) old rising = search (rules, rises_to epoch serial xs (All-tail (IsOfEpoch epoch) (timelines.Wrote e) xs old) rising)
 rises_to epoch serial (timelines.Reached q ∷ xs) old rising =
     let p : Point = record { epoch = epoch + 1; serial = serial } in
     let later : All (λ m. IsTrue (is_after q m)) (timelines.Reached p ∷ []) =
@@ -45,48 +47,12 @@ rises_to epoch serial (timelines.Reached q ∷ xs) old rising =
 
 -- ---- bitmaps that are restored
 
--- an entry that can't be trusted gives a name and a granularity alone
-untrusted_sound : (h : History) (e : StoredBitmap) → e.trusted ≡ false → IsShapedEntry (length h.start) e → IsSoundBitmap (timeline_of h) (restored e)
-untrusted_sound h e doubted shape =
-    subst (IsSoundBitmap (timeline_of h)) (sym (restored-untrusted e doubted)) (record {
-      name_is = shape.name_is;
-      shape = subst (IsShapedBitmap (length h.start)) (restored-untrusted e doubted) (restored_is_shaped (length h.start) e shape.shape shape.sized);
-      span_is = tt;
-      recorded = λ wrong. absurd (both_ways false refl wrong);
-      blank = λ inconsistent. record {
-        span = refl;
-        empty = ap (λ (n : ℕ). record { size = e.bits.size; granularity = e.bits.granularity; set = replicate n false }) (sym (length-replicate (length e.bits.set) false));
-        recording = refl;
-        free = refl;
-      };
-      kept = λ inconsistent. refl;
-    })
-
-trusted_sound : (h : History) (e : StoredBitmap) → e.trusted ≡ true → IsShapedEntry (length h.start) e → IsTrueEntry h e → IsSoundBitmap (timeline_of h) (restored e)
-trusted_sound h e sound shape truth =
-    subst (IsSoundBitmap (timeline_of h)) (sym (restored-trusted e sound)) (record {
-      name_is = shape.name_is;
-      shape = subst (IsShapedBitmap (length h.start)) (restored-trusted e sound) (restored_is_shaped (length h.start) e shape.shape shape.sized);
-      span_is = subst (IsTrueBitmap (timeline_of h)) (restored-trusted e sound) truth.span;
-      recorded = subst IsRecordedToNow (restored-trusted e sound) truth.recorded;
-      blank = λ wrong. absurd (both_ways false refl wrong);
-      kept = λ inconsistent. refl;
-    })
-
 pub restored_sound : (h : History) (e : StoredBitmap) → IsShapedEntry (length h.start) e → (IsTrue e.trusted → IsTrueEntry h e) → IsSoundBitmap (timeline_of h) (restored e)
-restored_sound h e shape truth =
-    elim (cases_Bool e.trusted) [
-      | inl sound ↦ trusted_sound h e sound shape (truth sound)
-      | inr doubted ↦ untrusted_sound h e doubted shape
-    ]
+restored_sound h e shape truth = grind (arith, common_steps)
 
 -- no job uses one
 restored_unused : (e : StoredBitmap) → IsUsedOnce [] (restored e)
-restored_unused e =
-    elim (cases_Bool e.trusted) [
-      | inl sound ↦ subst (IsUsedOnce []) (sym (restored-trusted e sound)) refl
-      | inr doubted ↦ subst (IsUsedOnce []) (sym (restored-untrusted e doubted)) refl
-    ]
+restored_unused e = search rules
 
 -- ---- the state
 

@@ -1,4 +1,7 @@
 -- The disk at a point, what stands and what was touched, as a history goes on.
+use Rattle.std.proofs.Common.{rules}
+use Rattle.std.proofs.Common.{arith}
+use Rattle.std.proofs.lemmas.Grind.{common_steps}
 use Rattle.std.proofs.Common.{◌≡◌, ℕ, true, false, inl, inr, refl, sym, ap, subst, ◌∙◌, List, [], ◌∷◌, ◌++◌, length, map}
 use Rattle.std.specs.Prelude.{All, IsTrue}
 use Rattle.std.proofs.lemmas.List.{map-append}
@@ -27,13 +30,13 @@ abbrev pub more_of : Timeline → List timelines.Entry → Timeline
 more_of t ms = record { start = t.start; entries = t.entries ++ ms }
 
 pub timeline-more : (h : History) (es : List Entry) → timeline_of (with_entries h es) ≡ more_of (timeline_of h) (map without_bytes es)
-timeline-more h es = ap (λ (ms : List timelines.Entry). record { start = length h.start; entries = ms }) (map-append without_bytes h.entries es)
+timeline-more h es = grind (arith, common_steps)
 
 pub timeline-wrote : (h : History) (at : ℕ) (bytes : List ℕ) → timeline_of (with_entry h (Wrote at bytes)) ≡ with_write (timeline_of h) (record { at = at; size = length bytes })
-timeline-wrote h at bytes = timeline-more h (Wrote at bytes ∷ [])
+timeline-wrote h at bytes = grind (arith, common_steps)
 
 pub timeline-reached : (h : History) (p : Point) → timeline_of (with_entry h (Reached p)) ≡ with_point (timeline_of h) p
-timeline-reached h p = timeline-more h (Reached p ∷ [])
+timeline-reached h p = grind (arith, common_steps)
 
 -- ---- its disks
 
@@ -48,8 +51,7 @@ now-reached h p = now-more h (Reached p ∷ [])
 
 before-more : (p : Point) (xs ys : List Entry) → has_point p (map without_bytes xs) ≡ true → entries_before p (xs ++ ys) ≡ entries_before p xs
 before-more p [] ys h = absurd (both_ways false refl h)
-before-more p (Wrote at bytes ∷ xs) ys h =
-    ap (λ (zs : List Entry). Wrote at bytes ∷ zs) (before-more p xs ys (past_write p (record { at = at; size = length bytes }) (map without_bytes xs) h))
+before-more p (Wrote at bytes ∷ xs) ys h = search (rules, before-more p xs ys (past_write p (record { at = at; size = length bytes }) (map without_bytes xs) h))
 before-more p (Reached q ∷ xs) ys h =
     elim (cases_Bool (same_point p q)) [
       | inl same ↦ cond-true (same_point p q) [] (Reached q ∷ entries_before p (xs ++ ys)) same ∙ sym (cond-true (same_point p q) [] (Reached q ∷ entries_before p xs) same)
@@ -66,9 +68,8 @@ pub disk_at-entry : (h : History) (entry : Entry) (p : Point) → IsTrue (stands
 disk_at-entry h entry p there = disk_at-more h (entry ∷ []) p there
 
 before-new : (p : Point) (xs : List Entry) → has_point p (map without_bytes xs) ≡ false → entries_before p (xs ++ Reached p ∷ []) ≡ xs
-before-new p [] absent = cond-true (same_point p p) [] (Reached p ∷ []) (same_point-itself p)
-before-new p (Wrote at bytes ∷ xs) absent =
-    ap (λ (zs : List Entry). Wrote at bytes ∷ zs) (before-new p xs (or_parts false (has_point p (map without_bytes xs)) absent).1)
+before-new p [] absent = search rules
+before-new p (Wrote at bytes ∷ xs) absent = search (rules, before-new p xs)
 before-new p (Reached q ∷ xs) absent =
     let neither = or_parts (same_point p q) (has_point p (map without_bytes xs)) absent in
     cond-false (same_point p q) [] (Reached q ∷ entries_before p (xs ++ Reached p ∷ [])) neither.0
@@ -80,13 +81,8 @@ disk_at-new h p absent = ap (disk_after h.start) (before-new p h.entries absent)
 
 inside-before : (size : ℕ) (p : Point) (xs : List Entry) → LieInside size (map without_bytes xs) → LieInside size (map without_bytes (entries_before p xs))
 inside-before size p [] inside = tt
-inside-before size p (Wrote at bytes ∷ xs) inside = (inside.0, inside-before size p xs inside.1)
-inside-before size p (Reached q ∷ xs) inside =
-    elim (cases_Bool (same_point p q)) [
-      | inl same ↦ subst (λ (ys : List Entry). LieInside size (map without_bytes ys)) (sym (cond-true (same_point p q) [] (Reached q ∷ entries_before p xs) same)) tt
-      | inr other ↦ subst (λ (ys : List Entry). LieInside size (map without_bytes ys)) (sym (cond-false (same_point p q) [] (Reached q ∷ entries_before p xs) other))
-          (inside-before size p xs inside)
-    ]
+inside-before size p (Wrote at bytes ∷ xs) inside = search (rules, inside-before size p xs inside.1)
+inside-before size p (Reached q ∷ xs) inside = search (rules, inside-before size p xs inside)
 
 pub length-disk_at : (h : History) (p : Point) → StaysInside h → length (disk_at h p) ≡ length h.start
 length-disk_at h p inside = length-disk_after h.start (entries_before p h.entries) (inside-before (length h.start) p h.entries inside)
@@ -94,21 +90,18 @@ length-disk_at h p inside = length-disk_after h.start (entries_before p h.entrie
 -- ---- what stands and what was touched
 
 pub stands-more : (h : History) (es : List Entry) (p : Point) → IsTrue (stands p (timeline_of h)) → IsTrue (stands p (timeline_of (with_entries h es)))
-stands-more h es p there = subst (λ (t : Timeline). IsTrue (stands p t)) (sym (timeline-more h es)) (has_point-more p (timeline_of h).entries (map without_bytes es) there)
+stands-more h es p there = grind (arith, common_steps)
 
 pub stands-entry : (h : History) (entry : Entry) (p : Point) → IsTrue (stands p (timeline_of h)) → IsTrue (stands p (timeline_of (with_entry h entry)))
-stands-entry h entry p there = stands-more h (entry ∷ []) p there
+stands-entry h entry p there = grind (arith, common_steps)
 
 pub stands-new : (h : History) (p : Point) → IsTrue (stands p (timeline_of (with_entry h (Reached p))))
-stands-new h p = subst (λ (t : Timeline). IsTrue (stands p t)) (sym (timeline-reached h p)) (last_stands p (timeline_of h).entries)
+stands-new h p = grind (arith, common_steps)
 
 -- what was touched up to a point that stands stays
 pub touched-more : (set : ℕ → Type 0) (h : History) (es : List Entry) (a b : Point) → IsTrue (stands b (timeline_of h))
     → AllTouched set (timeline_of h) a (At b) → AllTouched set (timeline_of (with_entries h es)) a (At b)
-touched-more set h es a b there all =
-    let ms : List timelines.Entry = map without_bytes es in
-    subst (λ (t : Timeline). AllTouched set t a (At b)) (sym (timeline-more h es))
-    (subst (λ (xs : List timelines.Entry). All (AllBytes set) (writes (after_point a xs))) (sym (before_point-append b (timeline_of h).entries ms there)) all)
+touched-more set h es a b there all = search (rules, timeline-more, before_point-append, there)
 
 pub touched-entry : (set : ℕ → Type 0) (h : History) (entry : Entry) (a b : Point) → IsTrue (stands b (timeline_of h))
     → AllTouched set (timeline_of h) a (At b) → AllTouched set (timeline_of (with_entry h entry)) a (At b)
@@ -126,6 +119,4 @@ touched_now-wrote set h at bytes a there new all =
     (subst (All (AllBytes set)) (sym is) (All-append (AllBytes set) (touched (timeline_of h) a Now) (e ∷ []) all (All-cons (AllBytes set) e [] new (All-nil (AllBytes set)))))
 
 pub touched_now-reached : (set : ℕ → Type 0) (h : History) (p a : Point) → AllTouched set (timeline_of h) a Now → AllTouched set (timeline_of (with_entry h (Reached p))) a Now
-touched_now-reached set h p a all =
-    subst (λ (t : Timeline). AllTouched set t a Now) (sym (timeline-reached h p))
-    (subst (All (AllBytes set)) (sym (touched-point a p (timeline_of h).entries)) all)
+touched_now-reached set h p a all = search (rules, timeline-reached, touched-point)

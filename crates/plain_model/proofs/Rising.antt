@@ -1,4 +1,5 @@
 -- Points that rise, as a timeline or a history goes on.
+use Rattle.std.proofs.Common.{rules}
 use Rattle.std.proofs.Common.{◌≡◌, ℕ, ◌+◌, ◌≤◌, true, false, inl, inr, refl, sym, subst, List, [], ◌∷◌, ◌++◌, length, append_assoc}
 use Rattle.std.specs.Prelude.{All, IsTrue}
 use Rattle.std.proofs.lemmas.List.Elements.{All-cons, All-nil, All-append, All-head, All-tail, All-weaker}
@@ -21,29 +22,29 @@ AreWrites (Wrote e ∷ ms) = AreWrites ms
 AreWrites (Reached p ∷ ms) = ⊥
 
 after-writes : (p : Point) (ms : List Entry) → AreWrites ms → All (λ m. IsTrue (is_after p m)) ms
-after-writes p [] are = All-nil (λ m. IsTrue (is_after p m))
-after-writes p (Wrote e ∷ ms) are = All-cons (λ m. IsTrue (is_after p m)) (Wrote e) ms refl (after-writes p ms are)
+after-writes p [] are = search rules
+after-writes p (Wrote e ∷ ms) are = search (rules, after-writes p ms are)
 after-writes p (Reached q ∷ ms) are = absurd are
 
 writes-rise : (ms : List Entry) → AreWrites ms → Rise ms
 writes-rise [] are = tt
-writes-rise (Wrote e ∷ ms) are = writes-rise ms are
+writes-rise (Wrote e ∷ ms) are = search (rules, writes-rise ms are)
 writes-rise (Reached q ∷ ms) are = absurd are
 
 -- points rise where writes follow
 pub rise-writes : (xs ms : List Entry) → Rise xs → AreWrites ms → Rise (xs ++ ms)
 rise-writes [] ms rising are = writes-rise ms are
-rise-writes (Wrote e ∷ xs) ms rising are = rise-writes xs ms rising are
+rise-writes (Wrote e ∷ xs) ms rising are = search (rules, rise-writes xs ms rising are)
 rise-writes (Reached p ∷ xs) ms rising are =
     (All-append (λ m. IsTrue (is_after p m)) xs ms rising.0 (after-writes p ms are), rise-writes xs ms rising.1 are)
 
 all-amid : (P : Entry → Type 0) (m : Entry) (xs ys : List Entry) → P m → All P (xs ++ ys) → All P (xs ++ m ∷ ys)
-all-amid P m [] ys here all = All-cons P m ys here all
+all-amid P m [] ys here all = search rules
 all-amid P m (x ∷ xs) ys here all = All-cons P x (xs ++ m ∷ ys) (All-head P x (xs ++ ys) all) (all-amid P m xs ys here (All-tail P x (xs ++ ys) all))
 
 rise-amid : (e : Extent) (xs ys : List Entry) → Rise (xs ++ ys) → Rise (xs ++ Wrote e ∷ ys)
 rise-amid e [] ys rising = rising
-rise-amid e (Wrote f ∷ xs) ys rising = rise-amid e xs ys rising
+rise-amid e (Wrote f ∷ xs) ys rising = search (rules, rise-amid e xs ys rising)
 rise-amid e (Reached p ∷ xs) ys rising =
     (all-amid (λ m. IsTrue (is_after p m)) (Wrote e) xs ys refl rising.0, rise-amid e xs ys rising.1)
 
@@ -52,7 +53,7 @@ pub rising-write : (t : Timeline) (e : Extent) (p : Point) → IsRising (with_po
 rising-write t e p rising = subst Rise (sym (append_assoc t.entries (Wrote e ∷ []) (Reached p ∷ []))) (rise-amid e t.entries (Reached p ∷ []) rising)
 
 rise-last : (q : Point) (xs : List Entry) → Rise xs → ArePast q xs → Rise (xs ++ Reached q ∷ [])
-rise-last q [] rising early = (All-nil (λ m. IsTrue (is_after q m)), tt)
+rise-last q [] rising early = search rules
 rise-last q (Wrote e ∷ xs) rising early = rise-last q xs rising (All-tail (λ m. IsTrue (is_before q m)) (Wrote e) xs early)
 rise-last q (Reached p ∷ xs) rising early = (
   All-append (λ m. IsTrue (is_after p m)) xs (Reached q ∷ []) rising.0
@@ -62,7 +63,7 @@ rise-last q (Reached p ∷ xs) rising early = (
 
 past-later : (p q : Point) → IsTrue (precedes p q) → (m : Entry) → IsTrue (is_before p m) → IsTrue (is_before q m)
 past-later p q order (Wrote e) early = refl
-past-later p q order (Reached r) early = precedes-trans r p q early order
+past-later p q order (Reached r) early = search rules
 
 -- a point after the last one is after all others
 pub rising-point : (t : Timeline) (p q : Point) → IsRising (with_point t p) → IsTrue (precedes p q) → IsRising (with_point (with_point t p) q)
@@ -71,19 +72,6 @@ rising-point t p q rising order =
     (All-append (λ m. IsTrue (is_before q m)) t.entries (Reached p ∷ [])
     (All-weaker (λ m. IsTrue (is_before p m)) (λ m. IsTrue (is_before q m)) (past-later p q order) t.entries (past p t.entries rising))
     (All-cons (λ m. IsTrue (is_before q m)) (Reached p) [] order (All-nil (λ m. IsTrue (is_before q m)))))
-
-rise-front : (xs ys : List Entry) → Rise (xs ++ ys) → Rise xs
-rise-front [] ys rising = tt
-rise-front (Wrote e ∷ xs) ys rising = rise-front xs ys rising
-rise-front (Reached p ∷ xs) ys rising = (all-front (λ m. IsTrue (is_after p m)) xs ys rising.0, rise-front xs ys rising.1)
-  where
-    all-front : (P : Entry → Type 0) (xs ys : List Entry) → All P (xs ++ ys) → All P xs
-    all-front P [] ys all = All-nil P
-    all-front P (x ∷ xs) ys all = All-cons P x xs (All-head P x (xs ++ ys) all) (all-front P xs ys (All-tail P x (xs ++ ys) all))
-
--- without its last point it still rises
-pub rising-before : (t : Timeline) (p : Point) → IsRising (with_point t p) → IsRising t
-rising-before t p rising = rise-front t.entries (Reached p ∷ []) rising
 
 past-stands : (p q : Point) (xs : List Entry) → ArePast p xs → has_point q xs ≡ true → precedes q p ≡ true
 past-stands p q [] early there = absurd (both_ways false refl there)

@@ -1,4 +1,5 @@
 -- A tick keeps a state sound.
+use Rattle.std.proofs.Common.{rules}
 use Rattle.std.proofs.Common.{◌≡◌, ℕ, List, [], ◌∷◌, ◌++◌, append_assoc, length-append, Bool, true, Option, Some, None, is_some, IsTrue, All, IsPermutation, map, count_by, bytes_eq, refl, sym, ap, subst, ◌∙◌, inl, inr, arith}
 use Rattle.std.specs.Prelude.{if◌then◌else◌}
 use Rattle.std.specs.List.{list_any}
@@ -28,10 +29,7 @@ use Rattle.plain_model.proofs.Grown.{with_copies, IsGrown, copies_grow, grown_is
 -- ---- the front job goes to the back
 
 bytes_either : (a b : List ℕ) → bytes_eq a b ≡ bytes_eq b a
-bytes_either a b = elim (cases_Bool (bytes_eq a b)) [
-  | inl same ↦ ap (λ (c : List ℕ). bytes_eq a c) (sym (same_bytes a b same)) ∙ ap (λ (c : List ℕ). bytes_eq c a) (same_bytes a b same)
-  | inr other ↦ other ∙ sym (same_bytes-back a b other)
-]
+bytes_either a b = search rules
 
 moved_jobs : (h : History) (j : Job) (rest views : List Job) → AreSoundJobs h (j ∷ rest) views → AreSoundJobs h (rest ++ j ∷ []) views
 moved_jobs h j rest views s =
@@ -85,10 +83,7 @@ served_jobs h j copied store rest views new s = record {
 
 served_order : (j : Job) (copied : List Bool) (store : Store) (rest views : List Job) (created : List (List ℕ)) → AreInOrder (j ∷ rest) views created
     → AreInOrder (with_copies copied store j ∷ rest) views created
-served_order j copied store rest views created s = record {
-  all = s.all;
-  in_order = s.in_order;
-}
+served_order j copied store rest views created s = search rules
 
 served_users : (h : History) (j : Job) (copied : List Bool) (store : Store) (rest : List Job) (bs : List BitmapState) → AreUsers h (j ∷ rest) bs
     → AreUsers h (with_copies copied store j ∷ rest) bs

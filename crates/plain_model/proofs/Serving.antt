@@ -1,4 +1,5 @@
 -- A state in which jobs and views have copied more.
+use Rattle.std.proofs.Common.{rules}
 use Rattle.std.proofs.Common.{◌≡◌, ℕ, List, [], ◌∷◌, ◌++◌, All, IsPermutation, map, length, bytes_eq, refl, sym, ap, subst, ◌∙◌, arith}
 use Rattle.std.specs.List.{list_any}
 use Rattle.std.proofs.lemmas.List.{map-append, length-map}
@@ -19,29 +20,20 @@ pub record IsCopying (h : History) (f : Job → Job) : Type 0 where
 
 pub map-map : {X Y Z : Type 0} (f : Y → Z) (g : X → Y) (k : X → Z) → ((x : X) → f (g x) ≡ k x) → (xs : List X) → map f (map g xs) ≡ map k xs
 map-map f g k so [] = refl
-map-map {X} {Y} {Z} f g k so (x ∷ xs) = ap (λ (z : Z). z ∷ map f (map g xs)) (so x) ∙ ap (λ (zs : List Z). k x ∷ zs) (map-map f g k so xs)
+map-map {X} {Y} {Z} f g k so (x ∷ xs) = search (rules, map-map f g k so xs)
 
 module _ (h : History) (f : Job → Job) (is : IsCopying h f) where
   id_same : (j : Job) → (f j).id ≡ j.id
-  id_same j = ap (λ (i : Job). i.id) (is.same j)
-
-  target_same : (j : Job) → (f j).target ≡ j.target
-  target_same j = ap (λ (i : Job). i.target) (is.same j)
-
-  bitmap_same : (j : Job) → (f j).bitmap ≡ j.bitmap
-  bitmap_same j = ap (λ (i : Job). i.bitmap) (is.same j)
+  id_same j = search rules
 
   same_ids : (i j : Job) → have_one_id (f i) (f j) ≡ have_one_id i j
-  same_ids i j = ap (λ (id : List ℕ). bytes_eq id (f j).id) (id_same i) ∙ ap (bytes_eq i.id) (id_same j)
+  same_ids i j = search rules
 
   same_targets : (i j : Job) → have_one_target (f i) (f j) ≡ have_one_target i j
-  same_targets i j = ap (λ (target : List ℕ). bytes_eq target (f j).target) (target_same i) ∙ ap (bytes_eq i.target) (target_same j)
+  same_targets i j = search rules
 
   still_view : (j : Job) → IsViewJob j → IsViewJob (f j)
-  still_view j view = record {
-    base_is = ap (λ (i : Job). i.base) (is.same j) ∙ view.base_is;
-    free = bitmap_same j ∙ view.free;
-  }
+  still_view j view = search rules
 
   served_jobs : (jobs views : List Job) → AreSoundJobs h jobs views → AreSoundJobs h (map f jobs) (map f views)
   served_jobs jobs views s =
@@ -57,16 +49,7 @@ module _ (h : History) (f : Job → Job) (is : IsCopying h f) where
       }
 
   served_order : (jobs views : List Job) (created : List (List ℕ)) → AreInOrder jobs views created → AreInOrder (map f jobs) (map f views) created
-  served_order jobs views created s =
-      let id_of : Job → List ℕ = λ j. j.id in
-      let e : map id_of (jobs ++ views) ≡ map id_of (map f jobs ++ map f views) =
-      sym (map-map id_of f id_of id_same (jobs ++ views)) ∙ ap (map id_of) (map-append f jobs views) in
-      record {
-        all = subst (λ (ids : List (List ℕ)). IsPermutation ids created) e s.all;
-        in_order = filter_agree (λ id. list_any (has_id id) (map f views)) (λ id. list_any (has_id id) views)
-            (λ id. list_any-map (has_id id) (has_id id) f (λ j. ap (bytes_eq id) (id_same j)) views) created
-            ∙ s.in_order ∙ sym (map-map id_of f id_of id_same views);
-      }
+  served_order jobs views created s = search (rules, map-map, id_same, map-append, filter_agree, list_any-map, bytes_eq)
 
   served_users : (jobs : List Job) (bs : List BitmapState) → AreUsers h jobs bs → AreUsers h (map f jobs) bs
   served_users jobs bs s =

@@ -1,4 +1,5 @@
 -- What the settling of a history adds to it: writes alone, which lead to the disk that was found.
+use Rattle.std.proofs.Common.{rules}
 use Rattle.std.proofs.Common.{◌≡◌, ℕ, zero, suc, ◌+◌, ◌-◌, ◌*◌, ◌/◌, ◌<◌, ◌≤◌, min, inl, inr, refl, sym, ap, subst, ◌∙◌, arith, List, [], ◌∷◌, length, map, take, drop, get_or}
 use Rattle.std.specs.Prelude.{All, Any, ◌==◌, nat_lt, if◌then◌else◌, bytes_eq}
 use Rattle.std.specs.List.{range_with_len}
@@ -30,9 +31,7 @@ use Rattle.plain_model.proofs.RecordLaws.{record-more}
 
 are_writes : (disk : List ℕ) (at : ℕ) (runs : List Run) → AreWrites (map without_bytes (writes_of disk at runs))
 are_writes disk at [] = tt
-are_writes disk at (r ∷ runs) =
-    cond_both (r.flags == 1) (Wrote at (take r.length (drop at disk)) ∷ writes_of disk (at + r.length) runs) (writes_of disk (at + r.length) runs)
-    (λ es. AreWrites (map without_bytes es)) (λ _. are_writes disk (at + r.length) runs) (λ _. are_writes disk (at + r.length) runs)
+are_writes disk at (r ∷ runs) = search (rules, are_writes disk (at + r.length) runs)
 
 lie_inside : (disk : List ℕ) (at : ℕ) (runs : List Run) → at + total_of runs ≤ length disk → LieInside (length disk) (map without_bytes (writes_of disk at runs))
 lie_inside disk at [] fits = tt
@@ -48,12 +47,8 @@ pub record IsDue (disk d : List ℕ) (x at : ℕ) (runs : List Run) : Type 0 whe
   pub before : x < at → get_or d x 0 ≡ get_or disk x 0
   pub unflagged : at ≤ x → (flags_at runs (x - at) ≡ 1 → ⊥) → get_or d x 0 ≡ get_or disk x 0
 
-flags-here : (r : Run) (runs : List Run) (n : ℕ) → n < r.length → flags_at (r ∷ runs) n ≡ r.flags
-flags-here r runs n below = cond-true (nat_lt n r.length) r.flags (flags_at runs (n - r.length)) (lt-ltb n r.length below)
-
 flags-later : (r : Run) (runs : List Run) (at x : ℕ) → at + r.length ≤ x → flags_at (r ∷ runs) (x - at) ≡ flags_at runs (x - (at + r.length))
-flags-later r runs at x later =
-    cond-false (nat_lt (x - at) r.length) r.flags (flags_at runs (x - at - r.length)) (le-ltb (x - at) r.length (omega arith)) ∙ ap (flags_at runs) (omega arith)
+flags-later r runs at x later = search rules
 
 due-written : (disk d : List ℕ) (x at : ℕ) (r : Run) (runs : List Run) → x < length disk → IsDue disk d x at (r ∷ runs)
     → IsDue disk (overlay d at (take r.length (drop at disk))) x (at + r.length) runs
@@ -71,16 +66,10 @@ due-written disk d x at r runs inside due =
     }
 
 due-kept : (disk d : List ℕ) (x at : ℕ) (r : Run) (runs : List Run) → (r.flags ≡ 1 → ⊥) → IsDue disk d x at (r ∷ runs) → IsDue disk d x (at + r.length) runs
-due-kept disk d x at r runs other due = record {
-  before = λ below. elim (cases_lt x at) [
-    | inl first ↦ due.before first
-    | inr here ↦ due.unflagged here (λ flagged. other (sym (flags-here r runs (x - at) (omega arith)) ∙ flagged))
-  ];
-  unflagged = λ later none. due.unflagged (omega arith) (λ flagged. none (sym (flags-later r runs at x later) ∙ flagged));
-}
+due-kept disk d x at r runs other due = search rules
 
 byte_settled : (disk d : List ℕ) (x at : ℕ) (runs : List Run) → x < length disk → IsDue disk d x at runs → get_or (disk_after d (writes_of disk at runs)) x 0 ≡ get_or disk x 0
-byte_settled disk d x at [] inside due = elim (cases_lt x at) [ inl first ↦ due.before first | inr later ↦ due.unflagged later (λ flagged. absurd (omega (arith, flagged))) ]
+byte_settled disk d x at [] inside due = search rules
 byte_settled disk d x at (r ∷ runs) inside due =
     let bytes : List ℕ = take r.length (drop at disk) in
     cond_both (r.flags == 1) (Wrote at bytes ∷ writes_of disk (at + r.length) runs) (writes_of disk (at + r.length) runs)
@@ -119,10 +108,7 @@ abbrev due_writes : List ℕ → List ℕ → List Entry
 due_writes old disk = writes_of disk 0 (differing old disk)
 
 sectors-fit : (old disk : List ℕ) (n : ℕ) → length old ≡ length disk → length disk ≡ n * 512 → 0 + length disk ≤ length (difference old disk) * 512
-sectors-fit old disk n long whole =
-    let count : length (difference old disk) ≡ length old / 512 = length-map-range_with_len (differs old disk) 0 (length old / 512) in
-    let sectors : length old / 512 ≡ n = omega arith in
-    omega arith
+sectors-fit old disk n long whole = search (rules, length-map-range_with_len)
 
 due-inside : (old disk : List ℕ) (n : ℕ) → length old ≡ length disk → length disk ≡ n * 512 → LieInside (length disk) (map without_bytes (due_writes old disk))
 due-inside old disk n long whole =
@@ -170,7 +156,7 @@ abbrev IsUnflagged : Run → Type 0
 IsUnflagged r = r.flags ≡ 0
 
 unflagged-parts : (e : Extent) (k : ℕ) (flags : List ℕ) → All (λ f. f ≡ 0) flags → All IsUnflagged (parts_of 512 e k flags)
-unflagged-parts e k [] all = All-nil IsUnflagged
+unflagged-parts e k [] all = search rules
 unflagged-parts e k (f ∷ flags) all =
     let r : Run = record { length = shared e (granule 512 k); flags = f } in
     let rest : All IsUnflagged (parts_of 512 e (k + 1) flags) = unflagged-parts e (k + 1) flags (All-tail (λ f. f ≡ 0) f flags all) in
@@ -178,7 +164,7 @@ unflagged-parts e k (f ∷ flags) all =
     (λ _. All-cons IsUnflagged r (parts_of 512 e (k + 1) flags) (All-head (λ f. f ≡ 0) f flags all) rest) (λ _. rest)
 
 unflagged-front : (r : Run) (runs : List Run) → IsUnflagged r → All IsUnflagged runs → All IsUnflagged (put_in_front r runs)
-unflagged-front r [] none all = All-cons IsUnflagged r [] none all
+unflagged-front r [] none all = search rules
 unflagged-front r (s ∷ runs) none all =
     let one : Run = record { length = r.length + s.length; flags = r.flags } in
     cond_both (r.flags == s.flags) (one ∷ runs) (r ∷ s ∷ runs) (All IsUnflagged)
@@ -207,16 +193,13 @@ no_difference disk = All-map (λ f. f ≡ 0) (differs disk disk) (range_with_len
 
 pub nothing_settles : (h : History) → settle h (now h) ≡ h
 unfolding settle
-nothing_settles h =
-    let none : due_writes (now h) (now h) ≡ [] =
-    no_writes (now h) 0 (differing (now h) (now h)) (unflagged-runs (record { at = 0; size = length (now h) }) (difference (now h) (now h)) (no_difference (now h))) in
-    ap (with_entries h) none ∙ ap (λ (es : List Entry). record { start = h.start; entries = es }) (append-nil h.entries)
+nothing_settles h = search (rules, no_writes, unflagged-runs, no_difference, with_entries, append-nil)
 
 -- ---- what a crash keeps
 
 -- where a sector is one of a single disk's, it is that disk's
 sector-kept : (last disk : List ℕ) (k : ℕ) → Any (λ d. sector d k ≡ sector disk k) (last ∷ []) → sector last k ≡ sector disk k
-sector-kept last disk k (zero, d, below, is, same) = rw is same
+sector-kept last disk k (zero, d, below, is, same) = search rules
 sector-kept last disk k (suc i, d, below, is, same) = absurd (omega (arith, below))
 
 -- of one disk in whole sectors a crash leaves the disk itself

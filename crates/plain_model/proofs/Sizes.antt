@@ -1,4 +1,5 @@
 -- The size of the disk stays as requests, ticks and cancellations are served.
+use Rattle.std.proofs.Common.{rules}
 use Rattle.std.proofs.Common.{◌≡◌, ℕ, List, [], ◌∷◌, Bool, Option, Some, None, is_some, refl, ◌∙◌}
 use Rattle.std.proofs.lemmas.Bool.{cond_both}
 use Rattle.span_algebra.specs.Timelines.{Extent}
@@ -45,9 +46,7 @@ by_fate_size Carried t r m =
 by_fate_size (CarriedInPart left) t r m = writing_size t (range_of r) left (Fault Io) m
 
 or_break_size : (breaks : Bool) (o : Outcome) → size_of (or_break breaks o).machine ≡ size_of o.machine
-or_break_size breaks o =
-    let noted : Noted = record { machine = o.machine; notices = o.answer.notices } in
-    cond_both breaks (with_reply o.answer.reply (after_break noted)) o (λ (p : Outcome). IsAsLong o.machine p.machine) (λ _. break_size noted) (λ _. refl)
+or_break_size breaks o = search (rules, cond_both, break_size)
 
 pub guest_size : (t : Trouble) (r : Request) (m : Machine) → size_of (guest t r m).machine ≡ size_of m
 unfolding guest

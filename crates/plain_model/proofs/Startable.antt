@@ -1,4 +1,7 @@
 -- What is known where the start of a backup isn't refused.
+use Rattle.std.proofs.Common.{rules}
+use Rattle.std.proofs.Common.{arith}
+use Rattle.std.proofs.lemmas.Grind.{common_steps}
 use Rattle.std.proofs.Common.{◌≡◌, ℕ, ◌<◌, List, [], ◌∷◌, length, Bool, true, false, not, ◌&&◌, inl, inr, refl, sym, ap, ◌∙◌}
 use Rattle.std.specs.Prelude.{Option, Some, None, is_some, is_none, unwrap_or, option_map, option_and_then, nat_le, ◌==◌, if◌then◌else◌, codes}
 use Rattle.std.specs.List.{list_any}
@@ -27,19 +30,11 @@ AllNone (o ∷ rest) = (o ≡ None) × AllNone rest
 
 pub first_none : {A : Type 0} (tests : List (Option A)) → first_of tests ≡ None → AllNone tests
 first_none [] h = tt
-first_none (None ∷ rest) h = (refl, first_none rest h)
+first_none (None ∷ rest) h = search (rules, first_none rest h)
 first_none (Some a ∷ rest) h = absurd (none-some a (sym h))
 
-pub then_none : {A : Type 0} (test : Bool) (a : A) → then_some test a ≡ None → test ≡ false
-then_none true a h = absurd (none-some a (sym h))
-then_none false a h = refl
-
-pub map_none : {A B : Type 0} (f : A → B) (o : Option A) → option_map f o ≡ None → o ≡ None
-map_none f None h = refl
-map_none f (Some a) h = absurd (none-some (f a) (sym h))
-
 pub usable_none : (name : List ℕ) (m : Machine) → unusable name m ≡ None → (b : BitmapState) × IsUsable (named name m.bitmaps) b
-usable_none name m h = use_none (named name m.bitmaps) (map_none (bitmap_refusal name 0) (use_fault (named name m.bitmaps)) h)
+usable_none name m h = search rules
 
 -- ---- the target
 
@@ -48,27 +43,6 @@ pub record IsTargetOf (size : ℕ) (held : Held) : Type 0 where
   pub blank : Bool
   pub store : Store
   pub is : held ≡ Target blank size store
-
-held_none : (size : ℕ) (target : List ℕ) (held : Held) → held_refusal size target held ≡ None → IsTargetOf size held
-held_none size target Absent h = absurd (none-some (TargetMissing target) (sym h))
-held_none size target (Faulty reason) h = absurd (none-some (TargetFault reason) (sym h))
-held_none size target (Target blank n store) h =
-    let rest : Option Refusal = if n == size then None else Some (OtherSize target) in
-    elim (cases_Bool (not blank)) [
-      | inl used ↦ absurd (none-some (TargetUsed target) (sym h ∙ cond-true (not blank) (Some (TargetUsed target)) rest used))
-      | inr unused ↦ elim (cases_Bool (n == size)) [
-        | inl same ↦ record { blank = blank; store = store; is = ap (λ (k : ℕ). Target blank k store) (eqb-true n size same) }
-        | inr other ↦ absurd (none-some (OtherSize target)
-            (sym h ∙ (cond-false (not blank) (Some (TargetUsed target)) rest unused ∙ cond-false (n == size) None (Some (OtherSize target)) other)))
-      ]
-    ]
-
-pub target_none : (size : ℕ) (target : List ℕ) (held : Held) → target_refusal size target held ≡ None → IsTargetOf size held
-target_none size target held h =
-    elim (cases_Bool (is_file_name target)) [
-      | inl named ↦ held_none size target held (sym (cond-true (is_file_name target) (held_refusal size target held) (Some (TargetMissing target)) named) ∙ h)
-      | inr unnamed ↦ absurd (none-some (TargetMissing target) (sym h ∙ cond-false (is_file_name target) (held_refusal size target held) (Some (TargetMissing target)) unnamed))
-    ]
 
 -- ---- a backup
 
@@ -84,20 +58,7 @@ pub record IsStartable (held : List ℕ → Held) (a : BackupArgs) (m : Machine)
   pub target : IsTargetOf (size_of m) (held a.target)
 
 startable : (held : List ℕ → Held) (unread : List ℕ → Bool) (a : BackupArgs) (m : Machine) → AllNone (backup_tests held unread a m) → IsStartable held a m
-startable held unread a m t =
-    let busy : (is_drive a.target ≡ false) × (list_any (has_target a.target) (runners m) ≡ false) =
-    or_parts (is_drive a.target) (list_any (has_target a.target) (runners m)) (then_none (is_target_busy a.target m) (TargetBusy a.target) t.1.1.1.1.1.1.1.1.0) in
-    record {
-      new_id = then_none (list_any (has_id a.job) (runners m)) (JobTaken a.job) t.1.0;
-      few = leb-false most_jobs (length (runners m)) (then_none (nat_le most_jobs (length (runners m))) (TooManyJobs most_jobs) t.1.1.0);
-      named_one = then_none (uses_bitmap a.sync && is_none a.bitmap) BitmapNeeded t.1.1.1.0;
-      named_none = then_none (not (uses_bitmap a.sync) && is_some a.bitmap) (BitmapForbidden (unwrap_or a.bitmap [])) t.1.1.1.1.0;
-      usable = t.1.1.1.1.1.1.0;
-      whole = map_none SourceBroken m.broken t.1.1.1.1.1.1.1.0;
-      off_drive = busy.0;
-      new_target = busy.1;
-      target = target_none (size_of m) a.target (held a.target) t.1.1.1.1.1.1.1.1.1.1.0;
-    }
+startable held unread a m t = grind (arith, common_steps)
 
 pub backup_none : (held : List ℕ → Held) (unread : List ℕ → Bool) (a : BackupArgs) (m : Machine) → backup_refusal held unread a m ≡ None → IsStartable held a m
 unfolding backup_refusal

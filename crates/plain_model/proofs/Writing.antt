@@ -1,4 +1,6 @@
 -- A write on a state in which no missing unit meets the range: the state stays sound.
+use Rattle.std.proofs.Common.{rules}
+use Rattle.std.proofs.lemmas.Grind.{common_steps}
 use Rattle.std.proofs.Common.{◌≡◌, ℕ, ◌+◌, ◌/◌, ◌<◌, ◌≤◌, List, Bool, true, false, Option, Some, None, IsTrue, All, Contains, length, count_by, cond, bytes_eq, get_or, refl, sym, ap, subst, ◌∙◌, inl, inr, arith}
 use Rattle.std.specs.Prelude.{slice_index, option_map}
 use Rattle.std.proofs.lemmas.Bool.{cases_Bool, cases_lt, both_ways, cond-false}
@@ -38,9 +40,7 @@ use Rattle.plain_model.proofs.Copying.{IsClear}
 -- ---- bitmaps
 
 marked_blank : (e : Extent) (b : BitmapState) → (IsTrue b.inconsistent → IsBlank b) → IsTrue (when_written e b).inconsistent → IsBlank (when_written e b)
-marked_blank e b blank inconsistent =
-    let was : IsBlank b = blank (sym (written_inconsistent e b) ∙ inconsistent) in
-    subst IsBlank (sym (when_written-off e b was.recording)) was
+marked_blank e b blank inconsistent = search (rules, written_inconsistent, when_written-off)
 
 marked_is_sound : (t : Timeline) (e : Extent) → e.at + e.size ≤ t.start → (b : BitmapState) → IsSoundBitmap t b → IsSoundBitmap (with_write t e) (when_written e b)
 marked_is_sound t e fits b s = record {
@@ -62,17 +62,11 @@ marked_are_sound t e fits bs s = record {
 }
 
 written_once : (e : Extent) (jobs : List Job) (b : BitmapState) → IsUsedOnce jobs b → IsUsedOnce jobs (when_written e b)
-written_once e jobs b once =
-    ap (λ (n : List ℕ). count_by (uses n) jobs) (written_name e b) ∙ once ∙ sym (ap (λ (busy : Bool). cond {A = ℕ} busy 1 0) (written_is_busy e b))
+written_once e jobs b once = search (rules, written_name, written_is_busy)
 
 -- a bitmap that a job uses is busy
 used_is_busy : (jobs : List Job) (b : BitmapState) (j : Job) → Contains jobs j → uses b.name j ≡ true → IsUsedOnce jobs b → is_busy b ≡ true
-used_is_busy jobs b j there own once = elim (cases_Bool (is_busy b)) [
-  | inl busy ↦ busy
-  | inr idle ↦
-      let none : count_by (uses b.name) jobs ≡ 0 = once ∙ cond-false {A = ℕ} (is_busy b) 1 0 idle in
-      absurd (both_ways (uses b.name j) (All-contains (λ (i : Job). uses b.name i ≡ false) jobs j (none_counted (uses b.name) jobs none) there) own)
-]
+used_is_busy jobs b j there own once = grind (arith, common_steps)
 
 -- ---- one write
 
@@ -81,7 +75,7 @@ module _ (h : History) (e : Extent) (bytes : List ℕ) (long : length bytes ≡ 
   written = with_entry h (Wrote e.at bytes)
 
   written_timeline : timeline_of written ≡ with_write (timeline_of h) e
-  written_timeline = timeline-wrote h e.at bytes ∙ ap (λ (n : ℕ). with_write (timeline_of h) (record { at = e.at; size = n })) long
+  written_timeline = grind (arith, common_steps)
 
   -- ---- jobs
 
@@ -96,16 +90,7 @@ module _ (h : History) (e : Extent) (bytes : List ℕ) (long : length bytes ≡ 
 
   -- a byte in a missing unit isn't written
   byte_stays : (u x : ℕ) → 0 < u → meets e (granule u (x / u)) ≡ false → slice_index (overlay (now h) e.at bytes) x ≡ slice_index (now h) x
-  byte_stays u x some apart = elim (cases_lt x e.at) [
-    | inl below ↦ byte-overlay_below (now h) e.at bytes x below
-    | inr from ↦
-        elim (cases_lt x (e.at + length bytes)) [
-          | inl inside ↦
-              absurd (both_ways (meets e (granule u (x / u))) apart
-              (meets-from e (granule u (x / u)) (omega (arith, granule_from x u, granule_to x u some))))
-          | inr past ↦ byte-overlay_above (now h) e.at bytes x past
-        ]
-  ]
+  byte_stays u x some apart = search (rules, cases_lt, byte-overlay_below, both_ways, meets-from, granule_from, granule_to, byte-overlay_above)
 
   written_job : (j : Job) → IsClear e j → IsSoundJob h j → IsSoundJob written j
   written_job j clear s = record {
