@@ -19,7 +19,7 @@ pub keeps_then : (a b c : Machine) → KeepsRest a b → KeepsRest b c → Keeps
 keeps_then a b c first then_on = search rules
 
 pub keeps_as : (m next same : Machine) → next ≡ same → KeepsRest m same → KeepsRest m next
-keeps_as m next same e k = search rules
+keeps_as m next same e k = subst (KeepsRest m) (sym e) k
 
 -- the next machine is sound for the history, and keeps the rest
 pub record IsActed (h : History) (old new : Machine) : Type 0 where

@@ -1,4 +1,6 @@
 -- Actions on bitmaps at the last point keep a state sound.
+use Rattle.std.proofs.Common.{arith}
+use Rattle.std.proofs.lemmas.Grind.{common_steps}
 use Rattle.std.proofs.Common.{rules}
 use Rattle.std.proofs.Common.{◌≡◌, ℕ, List, [], ◌∷◌, ◌++◌, Bool, false, not, inl, inr, refl, sym, ap, subst, ◌∙◌}
 use Rattle.std.specs.Prelude.{Option, Some, None, Result, Ok, Err, filter}
@@ -31,26 +33,23 @@ with_set m bs = record m { bitmaps = bs }
 
 pub bitmaps_ok : (m : Machine) (name : List ℕ) (g : ℕ) (r : Result (List BitmapState) BitmapFault) (next : Machine) → with_bitmaps m name g r ≡ Ok next
     → (bs : List BitmapState) × (r ≡ Ok bs) × (next ≡ with_set m bs)
-bitmaps_ok m name g (Ok bs) next h = search rules
-bitmaps_ok m name g (Err fault) next h = absurd (cc)
+bitmaps_ok m name g o next h = grind (arith, common_steps)
 
 -- where nothing refuses, the rest is the answer
 pub unrefused : {A : Type 0} (o : Option Refusal) (r : Result A Refusal) (next : A)
     → (elim o as (λ (x : Option Refusal). Result A Refusal) [ Some refusal ↦ Err refusal | None ↦ r ]) ≡ Ok next → (o ≡ None) × (r ≡ Ok next)
-unrefused None r next h = search rules
-unrefused (Some refusal) r next h = absurd (cc)
+unrefused o r next h = grind (arith, common_steps)
 
 -- one source is merged, and then the others
 merged_then : (target name : List ℕ) (p : Point) (sources : List SourceName) (m next : Machine) (r : Result (List BitmapState) BitmapFault)
     → (elim r as (λ (x : Result (List BitmapState) BitmapFault). Result Machine Refusal) [ Ok bs ↦ merge_sources target p sources (with_set m bs) | Err fault ↦ Err (bitmap_refusal name 0 fault) ]) ≡ Ok next
     → (bs : List BitmapState) × (r ≡ Ok bs) × (merge_sources target p sources (with_set m bs) ≡ Ok next)
-merged_then target name p sources m next (Ok bs) h = search rules
-merged_then target name p sources m next (Err fault) h = absurd (cc)
+merged_then target name p sources m next o h = grind (arith, common_steps)
 
 -- ---- a state with other bitmaps
 
 pub bitmaps_of : (h : History) (m : Machine) → IsSoundFor h m → AreKept h m.jobs m.bitmaps
-bitmaps_of h m s = search rules
+bitmaps_of h m s = record { sound = s.bitmaps_are; users = s.users }
 
 pub with_kept : (h : History) (m : Machine) (bs : List BitmapState) → IsSoundFor h m → AreKept h m.jobs bs → IsSoundFor h (with_set m bs)
 with_kept h m bs s k = search rules
@@ -62,16 +61,16 @@ pub record IsBitmapAct (h : History) (m next : Machine) : Type 0 where
   pub sound : IsSoundFor h next
 
 pub act_from : (h : History) (m next : Machine) (bs : List BitmapState) → IsSoundFor h m → next ≡ with_set m bs → AreKept h m.jobs bs → IsBitmapAct h m next
-act_from h m next bs s e k = search rules
+act_from h m next bs s e k = record { bitmaps = bs; only = e; sound = subst (IsSoundFor h) (sym e) (with_kept h m bs s k) }
 
 -- ---- the actions, at a history that ends by the point
 
 module _ (h : History) (t : Timeline) (p : Point) (is : timeline_of h ≡ with_point t p) (rising : IsRising (with_point t p)) where
   here : (b : BitmapState) → IsSoundBitmap (timeline_of h) b → IsSoundBitmap (with_point t p) b
-  here b s = search rules
+  here b s = subst (λ (x : Timeline). IsSoundBitmap x b) is s
 
   there : (change : BitmapState → BitmapState) (b : BitmapState) → KeepsSound (with_point t p) change b → KeepsSound (timeline_of h) change b
-  there change b k = search rules
+  there change b k = subst (λ (x : Timeline). KeepsSound x change b) (sym is) k
 
   pub add_keeps : (name : List ℕ) (g : ℕ) (recording persistent : Bool) (m next : Machine) → IsSoundFor h m
       → with_bitmaps m name g (after_add (size_of m) name g recording persistent p m.bitmaps) ≡ Ok next → IsBitmapAct h m next

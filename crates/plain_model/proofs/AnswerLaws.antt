@@ -1,4 +1,5 @@
 -- What denials, refusals, transactions and a break of the source leave.
+use Rattle.std.proofs.lemmas.Grind.{common_steps}
 use Rattle.std.proofs.Common.{rules}
 use Rattle.std.proofs.Common.{◌≡◌, ◌≢◌, ℕ, suc, ◌+◌, ◌<◌, Bool, true, false, refl, ap, ◌∙◌, arith, List, [], ◌∷◌, length}
 use Rattle.std.specs.Prelude.{Option, Some, None, is_some, option_and_then, Result, Ok, Err, filter, ◌==◌}
@@ -45,7 +46,7 @@ unmoved m reply o is = search rules
 -- a request that is denied is answered so
 denied_guest : (t : Trouble) (r : Request) (m : Machine) (errno : Errno) → fate t r m ≡ Denied errno → guest t r m ≡ answered (Fault errno) m
 unfolding guest
-denied_guest t r m errno denied = search rules
+denied_guest t r m errno denied = ap (λ (f : Fate). or_break (breaks_by f t r.work) (by_fate f t r m)) denied
 
 -- a request that is denied changes nothing
 pub denial_unmoved : (held : List ℕ → Held) (t : Trouble) (r : Request) (m : Machine) (errno : Errno) → fate t r (numbered m) ≡ Denied errno
@@ -59,8 +60,7 @@ IsPlain m o = (number : Option ℕ) (refusal : Refusal) → o.answer.reply ≡ R
 
 -- want of memory is nothing else
 plain-unless : (m : Machine) (memory : Option ℕ) (o : Outcome) → IsPlain m o → IsPlain m (unless_wanting memory o m)
-plain-unless m None o plain = plain
-plain-unless m (Some k) o plain = search rules
+plain-unless m x o plain = grind (arith, common_steps)
 
 -- a cancelling, by the job that was found
 abbrev cancelled_by : List ℕ → Machine → Option Job → Outcome
@@ -77,13 +77,7 @@ plain-cancel id m = search rules
 -- so it is for every command
 plain-command : (held : List ℕ → Held) (h : Hindrance) (c : Command) (m : Machine) → IsPlain m (command held h c m)
 unfolding command
-plain-command held h (Act action) m = search rules
-plain-command held h (Transaction actions) m = search rules
-plain-command held h (JobCancel id) m = plain-unless m h.memory (after_cancel id m) (plain-cancel id m)
-plain-command held h QueryJobs m = search rules
-plain-command held h QueryNodes m = search rules
-plain-command held h (ExportAdd args) m = search rules
-plain-command held h Quit m = search rules
+plain-command held h o m = grind (arith, common_steps, plain-unless, plain-cancel)
 
 -- a command that is refused changes nothing
 pub refusal_unmoved : (held : List ℕ → Held) (t : Trouble) (c : Command) (m : Machine) (number : Option ℕ) (refusal : Refusal)
@@ -126,8 +120,7 @@ IsWanting count (Err r) = r.refusal ≡ OutOfMemory → r.action < count
 
 -- drawing it leaves refusals as they are
 drawn_wanting : (p : Point) (count : ℕ) (result : Result Machine RefusedAt) → IsAmong 0 count result → IsWanting count (with_drawn p result)
-drawn_wanting p count (Ok next) among = tt
-drawn_wanting p count (Err r) among = search rules
+drawn_wanting p count o among = grind (arith, common_steps)
 
 -- want of memory in a transaction is that of one of its actions
 transact_wanting : (held : List ℕ → Held) (h : Hindrance) (actions : List Action) (m : Machine) → IsWanting (length actions) (transact held h actions m)
@@ -137,9 +130,7 @@ transact_wanting held h actions m = search (rules, cond_both, with_drawn, drawn_
 -- its number is told
 numbers_one : (actions : List Action) (m : Machine) (number : Option ℕ) (result : Result Machine RefusedAt) → IsWanting (length actions) result
     → (after_transaction (number_in actions) result m).answer.reply ≡ Refused number OutOfMemory → (k : ℕ) × (number ≡ Some k) × (k < length actions)
-numbers_one actions m number (Ok next) wanting is = absurd (cc)
-numbers_one [] m number (Err r) wanting is = absurd (omega (arith, wanting (cc)))
-numbers_one (a ∷ actions) m number (Err r) wanting is = search rules
+numbers_one actions m number o wanting is = grind (arith, common_steps)
 
 -- where memory is wanting for a transaction, one of its actions is named
 pub wanting_numbers : (held : List ℕ → Held) (t : Trouble) (actions : List Action) (m : Machine) (number : Option ℕ)
@@ -160,12 +151,11 @@ or_refused why result = elim why [ Some refusal ↦ Err refusal | None ↦ resul
 
 -- a refusal before a result leaves it so
 keeps-or_refused : (m : Machine) (why : Option Refusal) (result : Result Machine Refusal) → Keeps m result → Keeps m (or_refused why result)
-keeps-or_refused m None result keeps = keeps
-keeps-or_refused m (Some refusal) result keeps = tt
+keeps-or_refused m o result keeps = grind (arith, common_steps)
 
 -- so does the test of the node
 keeps-on_drive : (node : List ℕ) (m : Machine) (result : Result Machine Refusal) → Keeps m result → Keeps m (on_drive node result)
-keeps-on_drive node m result keeps = search rules
+keeps-on_drive node m result keeps = cond_both (is_drive node) result (Err (NodeUnknown node)) (Keeps m) (λ _. keeps) (λ _. tt)
 
 -- so do a merge's sources
 keeps-sources : (target : List ℕ) (p : Point) (sources : List SourceName) (m : Machine) → Keeps m (merge_sources target p sources m)
@@ -175,14 +165,7 @@ keeps-sources target p (s ∷ sources) m = search (rules, keeps-sources target p
 -- so does every action
 keeps-act : (held : List ℕ → Held) (unread : List ℕ → Bool) (p : Point) (a : Action) (m : Machine) → Keeps m (act held unread p a m)
 unfolding act
-keeps-act held unread p (Add node name granularity persistent recording) m = search rules
-keeps-act held unread p (Remove node name) m = search rules
-keeps-act held unread p (Clear node name) m = search rules
-keeps-act held unread p (Enable node name) m = search rules
-keeps-act held unread p (Disable node name) m = search rules
-keeps-act held unread p (Merge node target sources) m = search (rules, keeps-on_drive, keeps-or_refused, keeps-sources)
-keeps-act held unread p (Backup a) m = search rules
-keeps-act held unread p Abort m = tt
+keeps-act held unread p o m = grind (arith, common_steps, keeps-on_drive, keeps-or_refused, keeps-sources)
 
 -- a list of actions leaves it so too
 abbrev KeepsAll : Machine → Result Machine RefusedAt → Type 0
@@ -192,20 +175,16 @@ KeepsAll m (Err refused) = Unit {0}
 -- actions behind one that keeps it keep it
 keeps-acted : (held : List ℕ → Held) (h : Hindrance) (p : Point) (k : ℕ) (actions : List Action) (m : Machine) (result : Result Machine Refusal)
     → ((next : Machine) → KeepsAll next (fold_actions held h p (k + 1) actions next)) → Keeps m result → KeepsAll m (acted held h p k actions result)
-keeps-acted held h p k actions m (Ok next) more same = search rules
-keeps-acted held h p k actions m (Err refusal) more same = tt
+keeps-acted held h p k actions m o more same = grind (arith, common_steps)
 
 -- so does a list of actions
 keeps-fold : (held : List ℕ → Held) (h : Hindrance) (p : Point) (k : ℕ) (actions : List Action) (m : Machine) → KeepsAll m (fold_actions held h p k actions m)
 keeps-fold held h p k [] m = refl
-keeps-fold held h p k (a ∷ actions) m =
-    cond_both (is_at h.memory k) (Err (record { action = k; refusal = OutOfMemory })) (acted held h p k actions (act held h.unread p a m)) (KeepsAll m) (λ _. tt)
-    (λ _. keeps-acted held h p k actions m (act held h.unread p a m) (keeps-fold held h p (k + 1) actions) (keeps-act held h.unread p a m))
+keeps-fold held h p k (a ∷ actions) m = grind (arith, common_steps, keeps-fold held h p (k + 1) actions, cond_both, acted, keeps-acted, keeps-act)
 
 -- so does drawing a point
 keeps-drawn : (p : Point) (m : Machine) (result : Result Machine RefusedAt) → KeepsAll m result → KeepsAll m (with_drawn p result)
-keeps-drawn p m (Ok next) keeps = keeps
-keeps-drawn p m (Err refused) keeps = tt
+keeps-drawn p m o keeps = grind (arith, common_steps)
 
 -- so does a whole transaction
 keeps-transact : (held : List ℕ → Held) (h : Hindrance) (actions : List Action) (m : Machine) → KeepsAll m (transact held h actions m)
@@ -218,19 +197,16 @@ IsKept m o = o.machine.broken ≡ m.broken
 
 -- a transaction keeps it, done or refused
 kept-transaction : (number : ℕ → Option ℕ) (m : Machine) (result : Result Machine RefusedAt) → KeepsAll m result → IsKept m (after_transaction number result m)
-kept-transaction number m (Ok next) keeps = keeps
-kept-transaction number m (Err r) keeps = refl
+kept-transaction number m o keeps = grind (arith, common_steps)
 
 -- so does want of memory
 kept-unless : (m : Machine) (memory : Option ℕ) (o : Outcome) → IsKept m o → IsKept m (unless_wanting memory o m)
-kept-unless m None o keeps = keeps
-kept-unless m (Some k) o keeps = refl
+kept-unless m x o keeps = grind (arith, common_steps)
 
 -- so does a cancelling, found or not
 kept-cancelled : (id : List ℕ) (m : Machine) (found : Option Job) → IsKept m (cancelled_by id m found)
 unfolding leave
-kept-cancelled id m None = refl
-kept-cancelled id m (Some j) = refl
+kept-cancelled id m o = grind (arith, common_steps)
 
 -- the same of the command
 kept-cancel : (id : List ℕ) (m : Machine) → IsKept m (after_cancel id m)
@@ -240,19 +216,12 @@ kept-cancel id m = kept-cancelled id m (job_of id (runners m))
 -- so does every command
 kept-command : (held : List ℕ → Held) (h : Hindrance) (c : Command) (m : Machine) → IsKept m (command held h c m)
 unfolding command
-kept-command held h (Act action) m = kept-transaction (λ k. None) m (transact held h (action ∷ []) m) (keeps-transact held h (action ∷ []) m)
-kept-command held h (Transaction actions) m = kept-transaction (number_in actions) m (transact held h actions m) (keeps-transact held h actions m)
-kept-command held h (JobCancel id) m = kept-unless m h.memory (after_cancel id m) (kept-cancel id m)
-kept-command held h QueryJobs m = search rules
-kept-command held h QueryNodes m = search rules
-kept-command held h (ExportAdd args) m = search rules
-kept-command held h Quit m = search rules
+kept-command held h o m = grind (arith, common_steps, kept-transaction, keeps-transact, kept-unless, kept-cancel)
 
 -- a job that tried to copy leaves it too
 kept-try : (rest : List Job) (j : Job) (stop : Option JobFault) (m : Machine) → IsKept m (after_try rest (record { job = j; stop = stop }) m)
 unfolding leave
-kept-try rest j None m = refl
-kept-try rest j (Some fault) m = refl
+kept-try rest j o m = grind (arith, common_steps)
 
 -- so does a job that completes
 kept-seal : (j : Job) (m : Machine) → IsKept m (after_seal j m)
@@ -283,7 +252,7 @@ kept-writing t e bytes reply m = refl
 -- where all leave, none stay
 none_stay : (jobs : List Job) → filter (λ (j : Job). false) jobs ≡ []
 none_stay [] = refl
-none_stay (j ∷ jobs) = search (rules, none_stay jobs)
+none_stay (j ∷ jobs) = none_stay jobs
 
 -- an option isn't both None and Some
 both_answers : (n : ℕ) (o : Option ℕ) → o ≡ None → o ≡ Some n → ⊥
@@ -317,6 +286,4 @@ break_by_guest t r m n whole broke = break_by_fate (fate t r m) t r m n whole br
 pub break_answers : (held : List ℕ → Held) (t : Trouble) (event : Event) (m : Machine) (n : ℕ) → m.broken ≡ None → (outcome held t event m).machine.broken ≡ Some n
     → AnswersIo event (outcome held t event m)
 unfolding outcome
-break_answers held t (Guest r) m n whole broke = break_by_guest t r (numbered m) n whole broke
-break_answers held t (Monitor c) m n whole broke = search (rules, both_answers, kept-command)
-break_answers held t Tick m n whole broke = absurd (both_answers n (tick t (numbered m)).machine.broken (kept-tick t (numbered m) ∙ whole) broke)
+break_answers held t o m n whole broke = grind (arith, common_steps, break_by_guest, both_answers, kept-command, kept-tick)

@@ -96,7 +96,7 @@ since_byte h b p q x byte history holds changes inside same =
 
 follow_byte : (h : History) (id : List ℕ) (size : ℕ) (p : Point) (backups : List Backup) (end : Point) (x byte : ℕ) → IsHistory h → Follow id size p backups end
     → All (RecordIsTrue h) backups → x < length h.start → byte ≡ slice_index (disk_at h p) x → topmost x byte backups ≡ slice_index (disk_at h end) x
-follow_byte h id size p [] end x byte history follow records inside same = search rules
+follow_byte h id size p [] end x byte history follow records inside same = subst (λ (q : Point). byte ≡ slice_index (disk_at h q) x) follow same
 follow_byte h id size p (b ∷ backups) end x byte history follow records inside same =
     let state : StateHolds h b (Sealed (Since p) follow.0) = subst (StateHolds h b) follow.1 (All-head (RecordIsTrue h) b backups records) in
     follow_byte h id size follow.0 backups end x (if is_present b x then slice_index b.content x else byte) history follow.4

@@ -1,4 +1,5 @@
 -- What a closing stores is what the next opening restores, and it is true.
+use Rattle.std.proofs.lemmas.Grind.{common_steps}
 use Rattle.std.proofs.Common.{rules}
 use Rattle.std.proofs.Common.{◌≡◌, List, [], ◌∷◌, map, true, false, inl, inr, refl, sym, ap, subst, ◌∙◌, arith}
 use Rattle.std.specs.Prelude.{All, IsTrue, Option, Some, None, is_some, filter, not}
@@ -22,8 +23,7 @@ use Rattle.plain_model.proofs.Leaving.{closed_is_sound}
 -- ---- one bitmap
 
 none_from : {A : Type 0} (o : Option A) → is_some o ≡ false → o ≡ None
-none_from None h = refl
-none_from (Some a) h = absurd (both_ways true h refl)
+none_from o h = grind (arith, common_steps)
 
 -- it is restored as it was, and what it says is true
 pub record IsLasting (h : History) (b : BitmapState) : Type 0 where
@@ -38,7 +38,7 @@ lasts h b kept s once = search rules
 -- it leaves no jobs
 no_jobs : (jobs : List Job) → filter (λ (j : Job). not (true)) jobs ≡ []
 no_jobs [] = refl
-no_jobs (j ∷ jobs) = search (rules, no_jobs jobs)
+no_jobs (j ∷ jobs) = no_jobs jobs
 
 closed_jobs : (m : Machine) → (closed m).machine.jobs ≡ []
 unfolding closed leave
@@ -62,7 +62,7 @@ all_last m s =
 
 map_twice : (bs : List BitmapState) → map restored (map stored bs) ≡ map (λ (b : BitmapState). restored (stored b)) bs
 map_twice [] = refl
-map_twice (b ∷ bs) = search (rules, map_twice bs)
+map_twice (b ∷ bs) = ap (λ (cs : List BitmapState). restored (stored b) ∷ cs) (map_twice bs)
 
 pub closing_stores : (m : Machine) → IsSound m → StoresLasting m
 closing_stores m s =

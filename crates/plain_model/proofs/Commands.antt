@@ -1,4 +1,5 @@
 -- Each command takes a sound state to a sound state.
+use Rattle.std.proofs.lemmas.Grind.{common_steps}
 use Rattle.std.proofs.Common.{rules}
 use Rattle.std.proofs.Common.{◌≡◌, ℕ, ◌<◌, List, [], ◌∷◌, ◌++◌, length, true, false, not, ◌&&◌, inl, inr, refl, arith}
 use Rattle.std.specs.Prelude.{IsTrue, Option, Some, None, Result, Ok, Err, is_none, nat_le, bytes_eq}
@@ -60,16 +61,14 @@ pub record IsSoundAfter (m : Machine) (o : Outcome) : Type 0 where
 
 transaction_sound : (number : ℕ → Option ℕ) (r : Result Machine RefusedAt) (m : Machine) → IsSound m → ((next : Machine) → r ≡ Ok next → IsTransacted m next)
     → IsSoundAfter m (after_transaction number r m)
-transaction_sound number (Ok next) m s went = search rules
-transaction_sound number (Err refused) m s went = search rules
+transaction_sound number (Ok next) m s went = let t : IsTransacted m next = went next refl in record { sound = t.sound; sized = t.sized }
+transaction_sound number (Err refused) m s went = record { sound = s; sized = refl }
 
 unless_sound : (memory : Option ℕ) (o : Outcome) (m : Machine) → IsSound m → IsSoundAfter m o → IsSoundAfter m (unless_wanting memory o m)
-unless_sound None o m s made = made
-unless_sound (Some number) o m s made = search rules
+unless_sound x o m s made = grind (arith, common_steps)
 
 added_sound : (refusal : Option Refusal) (o : Outcome) (m : Machine) → IsSound m → (refusal ≡ None → IsSoundAfter m o) → IsSoundAfter m (after_export refusal o m)
-added_sound None o m s made = search rules
-added_sound (Some refusal) o m s made = search rules
+added_sound x o m s made = grind (arith, common_steps)
 
 pub command_sound : (held : List ℕ → Held) (hindrance : Hindrance) (c : Command) (m : Machine) → ((name : List ℕ) → IsFit (held name)) → IsSound m
     → IsSoundAfter m (command held hindrance c m)
@@ -77,7 +76,7 @@ unfolding command
 command_sound held hindrance (Act action) m fit s = search (rules, transaction_sound, transact_sound)
 command_sound held hindrance (Transaction actions) m fit s = search (rules, transaction_sound, transact_sound)
 command_sound held hindrance (JobCancel id) m fit s = search (rules, unless_sound, after_cancel_is_sound, after_cancel_size)
-command_sound held hindrance QueryJobs m fit s = search rules
-command_sound held hindrance QueryNodes m fit s = search rules
+command_sound held hindrance QueryJobs m fit s = unless_sound hindrance.memory (answered (Jobs (job_infos m)) m) m s (record { sound = s; sized = refl })
+command_sound held hindrance QueryNodes m fit s = unless_sound hindrance.memory (answered (Nodes (node_infos m)) m) m s (record { sound = s; sized = refl })
 command_sound held hindrance (ExportAdd args) m fit s = search (rules, unless_sound, added_sound, export_sound)
 command_sound held hindrance Quit m fit s = search rules

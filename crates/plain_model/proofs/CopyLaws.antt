@@ -1,4 +1,5 @@
 -- A job of which nothing is missing, and what a copy and the disk have together.
+use Rattle.std.proofs.lemmas.Grind.{common_steps}
 use Rattle.std.proofs.Common.{rules}
 use Rattle.std.proofs.Common.{◌≡◌, ℕ, ◌/◌, ◌<◌, Bool, false, inl, inr, refl, sym, ◌∙◌, arith, List, ◌++◌, length}
 use Rattle.std.specs.Prelude.{None, IsTrue, Contains, if◌then◌else◌, slice_index}
@@ -34,9 +35,7 @@ one_set a b long there back = ext_get_or false a b long
 
 base_done : (h : History) (j : Job) (b : Backup) (base : Base) → ((x : ℕ) → IsTrue (is_in j.scope (x / unit_of j)) → IsTrue (is_present b x))
     → ScopeHolds h j base → BaseHolds h b base j.point
-base_done h j b Whole done holds = search rules
-base_done h j b (Since a) done holds = search rules
-base_done h j b Loose done holds = tt
+base_done h j b o done holds = grind (arith, common_steps)
 
 pub completed_is_true : (m : Machine) (j : Job) (id content : List ℕ) (present : List Bool) → IsSound m → Contains m.jobs j → next_unit j ≡ None
     → HoldsCopies m.history j present content → Completes m j id present content

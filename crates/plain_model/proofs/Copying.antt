@@ -1,4 +1,5 @@
 -- Jobs and views copy what a write will change: the state stays sound, and no unit that is missing meets the range any more.
+use Rattle.std.proofs.lemmas.Grind.{common_steps}
 use Rattle.std.proofs.Common.{rules}
 use Rattle.std.proofs.Common.{◌≡◌, ℕ, ◌<◌, ◌&&◌, List, [], ◌∷◌, Bool, true, false, not, Option, Some, None, is_some, IsTrue, All, Contains, filter, map, length, get_or, bytes_eq, refl, sym, ap, subst, ◌∙◌, inl, inr, arith}
 use Rattle.std.specs.List.{list_any, range_with_len}
@@ -34,7 +35,7 @@ IsClear e j = (k : ℕ) → is_missing j.scope j.copied k ≡ true → meets e (
 
 -- what holds of all that pass holds of each that passes
 all_that_pass : {X : Type 0} (P : X → Type 0) (p : X → Bool) (xs : List X) → All P (filter p xs) → All (λ (x : X). p x ≡ true → P x) xs
-all_that_pass {X} P p [] all = search rules
+all_that_pass {X} P p [] all = All-nil (λ (x : X). p x ≡ true → P x)
 all_that_pass {X} P p (x ∷ xs) all = elim (cases_Bool (p x)) [
   | inl passes ↦
       let here : All P (x ∷ filter p xs) = rw passes at all in
@@ -51,8 +52,7 @@ passing_all {X} P p xs all =
     λ k d below. both k d below (passes k d below)
 
 stop_none : {A : Type 0} (stop : Option A) → is_some stop ≡ false → stop ≡ None
-stop_none None h = refl
-stop_none (Some a) h = absurd (both_ways true h refl)
+stop_none o h = grind (arith, common_steps)
 
 -- ---- one job
 

@@ -10,11 +10,10 @@ use Rattle.std.proofs.lemmas.Bool.{cases_Bool, cond-true, cond-false, or_parts}
 
 -- two facts on each of a list give a third
 pub all_both : {A : Type 0} (P Q R : A → Type 0) (xs : List A) → ((x : A) → P x → Q x → R x) → All P xs → All Q xs → All R xs
-all_both P Q R xs both ps qs = search rules
+all_both P Q R xs both ps qs = λ k d below. both _ (ps k d below) (qs k d below)
 
 pub none_passes : {A : Type 0} (p : A → Bool) (xs : List A) → list_any p xs ≡ false → All (λ x. p x ≡ false) xs
-none_passes p [] h = search rules
-none_passes p (x ∷ xs) h = grind (arith, common_steps)
+none_passes p o h = grind (arith, common_steps)
 
 -- ---- counts
 
@@ -22,10 +21,10 @@ abbrev pub one_if : Bool → ℕ
 one_if b = if b then 1 else 0
 
 pub count-cons : {A : Type 0} (p : A → Bool) (x : A) (xs : List A) → count_by p (x ∷ xs) ≡ one_if (p x) + count_by p xs
-count-cons p x xs = grind (arith, common_steps)
+count-cons p x xs = sum_by-cons (λ y. one_if (p y)) x xs
 
 pub count-push : {A : Type 0} (p : A → Bool) (xs : List A) (x : A) → count_by p (xs ++ x ∷ []) ≡ count_by p xs + one_if (p x)
-count-push p xs x = grind (arith, common_steps)
+count-push p xs x = sum_by_push (λ y. one_if (p y)) xs x
 
 pub counted_none : {A : Type 0} (p : A → Bool) (xs : List A) → All (λ x. p x ≡ false) xs → count_by p xs ≡ 0
 counted_none p [] h = refl
@@ -35,5 +34,4 @@ counted_none p (x ∷ xs) h =
     omega (arith, count-cons p x xs)
 
 pub none_counted : {A : Type 0} (p : A → Bool) (xs : List A) → count_by p xs ≡ 0 → All (λ x. p x ≡ false) xs
-none_counted p [] h = search rules
-none_counted p (x ∷ xs) h = grind (arith, common_steps)
+none_counted p o h = grind (arith, common_steps)

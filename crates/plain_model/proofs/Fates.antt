@@ -31,11 +31,7 @@ pub record IsWritable (r : Request) (m : Machine) : Type 0 where
 
 valid_is_writable : (r : Request) (m : Machine) (work : Work) → is_invalid r work m ≡ false → HasBytes r work → is_write work ≡ true
     → (length (bytes_of r work) ≡ r.length) × (r.offset + r.length ≤ size_of m)
-valid_is_writable r m Read valid has writes = absurd (both_ways false refl writes)
-valid_is_writable r m (Write fua) valid has writes = search rules
-valid_is_writable r m (Zero fua no_hole) valid has writes = grind (arith, common_steps)
-valid_is_writable r m Flush valid has writes = absurd (both_ways false refl writes)
-valid_is_writable r m (Status context one) valid has writes = absurd (both_ways false refl writes)
+valid_is_writable r m o valid has writes = grind (arith, common_steps)
 
 pub granted_is_writable : (r : Request) (m : Machine) → denial r m ≡ None → HasBytes r r.work → is_write r.work ≡ true → IsWritable r m
 granted_is_writable r m none has writes =
@@ -66,6 +62,4 @@ pub record HasTorn (r : Request) (left : List ℕ) : Type 0 where
   pub long : length left ≡ length (bytes_of r r.work)
 
 pub broken_has_torn : (end : RequestEnd) (r : Request) (m : Machine) (left : List ℕ) → IsLeft end r m → fate_by end r m ≡ CarriedInPart left → HasTorn r left
-broken_has_torn Untouched r m left torn = search rules
-broken_has_torn Well r m left torn = search rules
-broken_has_torn (Torn bytes) r m left torn = search rules
+broken_has_torn o r m left torn = grind (arith, common_steps)

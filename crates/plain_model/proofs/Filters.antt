@@ -38,11 +38,10 @@ module _ {X : Type 0} (p : X → Bool) where
   exchanged : (d : X) (l : List X) (i j : ℕ) → i < length l → j < length l
       → IsPermutation (filter p l) (filter p (set (set l i (get_or l j d)) j (get_or l i d)))
   exchanged d [] i j low high = absurd (omega (arith, low))
-  exchanged d (x ∷ l) zero zero low high = search rules
+  exchanged d (x ∷ l) zero zero low high = IsPermutation-refl (filter p (x ∷ l))
   exchanged d (x ∷ l) zero (suc j) low high = with_first x d l j (omega (arith, high))
   exchanged d (x ∷ l) (suc i) zero low high = with_first x d l i (omega (arith, low))
-  exchanged d (x ∷ l) (suc i) (suc j) low high =
-      one_more x l (set (set l i (get_or l j d)) j (get_or l i d)) (exchanged d l i j (omega (arith, low)) (omega (arith, high)))
+  exchanged d (x ∷ l) (suc i) (suc j) low high = grind (arith, common_steps, exchanged d l i j (omega (arith, low)) (omega (arith, high)), one_more)
 
   swapped : (l : List X) (i j : ℕ) → i < length l → j < length l → IsPermutation (filter p l) (filter p (swap l i j))
   swapped [] i j low high = absurd (omega (arith, low))
@@ -68,8 +67,7 @@ filter_under {X} q t u both (x ∷ xs) = search (rules, filter_under q t u both 
 -- ---- counts
 
 pub count_by-map : {X Y : Type 0} (p : Y → Bool) (q : X → Bool) (f : X → Y) → ((x : X) → p (f x) ≡ q x) → (xs : List X) → count_by p (map f xs) ≡ count_by q xs
-count_by-map p q f same [] = refl
-count_by-map p q f same (x ∷ xs) = grind (arith, common_steps)
+count_by-map p q f same o = grind (arith, common_steps)
 
 -- the elements that pass a test, and then those that don't, are all
 pub count_parted : {X : Type 0} (p q : X → Bool) (xs : List X) → count_by p (filter q xs ++ filter (λ (x : X). not (q x)) xs) ≡ count_by p xs

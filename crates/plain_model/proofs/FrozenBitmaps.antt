@@ -23,14 +23,7 @@ use Rattle.plain_model.proofs.Users.{others_kept, idle_unused}
 use Rattle.plain_model.proofs.ChangedBitmaps.{AreKept}
 
 pub frozen_sound : (t : Timeline) (b : BitmapState) → is_busy b ≡ false → b.inconsistent ≡ false → IsSoundBitmap t b → IsSoundBitmap t (when_frozen b)
-frozen_sound t b idle consistent s = record {
-  name_is = s.name_is;
-  shape = frozen_keeps_shape t.start b s.shape;
-  span_is = frozen_keeps_true t b idle s.span_is;
-  recorded = frozen_keeps_recorded b s.recorded;
-  blank = λ wrong. absurd (both_ways b.inconsistent consistent wrong);
-  kept = s.kept;
-}
+frozen_sound t b idle consistent s = grind (arith, common_steps, frozen_keeps_shape, frozen_keeps_true, frozen_keeps_recorded, both_ways)
 
 -- ---- a job without a bitmap
 

@@ -33,14 +33,7 @@ pub record IsEnding (h : History) (change : Job → BitmapState → BitmapState)
 
 pub reclaimed_is_sound : (h : History) (b : BitmapState) → b.inconsistent ≡ false → IsSoundBitmap (timeline_of h) b
     → IsSoundBitmap (timeline_of h) (when_reclaimed b)
-reclaimed_is_sound h b consistent s = record {
-  name_is = s.name_is;
-  shape = reclaimed_keeps_shape (timeline_of h).start b s.shape;
-  span_is = reclaimed_keeps_true (timeline_of h) (timeline_of h).start b s.shape s.span_is;
-  recorded = reclaimed_keeps_recorded b s.recorded;
-  blank = λ inconsistent. absurd (both_ways b.inconsistent consistent inconsistent);
-  kept = s.kept;
-}
+reclaimed_is_sound h b consistent s = grind (arith, common_steps, reclaimed_keeps_shape, reclaimed_keeps_true, reclaimed_keeps_recorded, both_ways)
 
 pub abdicated_is_sound : (h : History) (p : Point) (b : BitmapState) → IsTrue (stands p (timeline_of h)) → SuccessorHolds h p (Some b) → b.inconsistent ≡ false
     → IsSoundBitmap (timeline_of h) b → IsSoundBitmap (timeline_of h) (when_abdicated p b)
@@ -61,12 +54,10 @@ given_back_is_ending h = record {
 }
 
 mode_name : (mode : Mode) (j : Job) (b : BitmapState) → (by_mode mode j b).name ≡ b.name
-mode_name OnSuccess j b = refl
-mode_name Never j b = refl
+mode_name o j b = grind (arith, common_steps)
 
 mode_free : (mode : Mode) (j : Job) (b : BitmapState) → is_busy (by_mode mode j b) ≡ false
-mode_free OnSuccess j b = refl
-mode_free Never j b = refl
+mode_free o j b = grind (arith, common_steps)
 
 mode_sound : (h : History) (mode : Mode) (j : Job) (b : BitmapState) → IsTrue (stands j.point (timeline_of h)) → SuccessorHolds h j.point (Some b)
     → b.inconsistent ≡ false → IsSoundBitmap (timeline_of h) b → IsSoundBitmap (timeline_of h) (by_mode mode j b)
@@ -85,8 +76,7 @@ completed_is_ending h = record {
 -- the job that uses a bitmap finds it
 pub found_bitmap : (h : History) (p : Point) (found : Option BitmapState) → SuccessorHolds h p found
     → (b : BitmapState) × (found ≡ Some b) × SuccessorHolds h p (Some b)
-found_bitmap h p None holds = absurd holds
-found_bitmap h p (Some b) holds = search rules
+found_bitmap h p o holds = grind (arith, common_steps)
 
 -- a bitmap that is used is busy, and consistent
 pub busy_is_consistent : (b : BitmapState) → is_busy b ≡ true → (IsTrue b.inconsistent → IsBlank b) → b.inconsistent ≡ false
@@ -107,21 +97,14 @@ pub record AreLeft (h : History) (jobs : List Job) (bs : List BitmapState) : Typ
 
 module _ (h : History) (change : Job → BitmapState → BitmapState) (ending : IsEnding h change) (j : Job) (jobs : List Job) (name : List ℕ) (is : j.bitmap ≡ Some name) where
   own_uses : (c : BitmapState) → uses c.name j ≡ bytes_eq c.name name
-  own_uses c = search rules
+  own_uses c = ap (is_own c.name) is
 
   own_once : (c : BitmapState) → IsUsedOnce (j ∷ jobs) c → IsUsedOnce jobs (change_if (change j) name c)
-  own_once c once =
-      cond_both (is_named name c) (change j c) c (IsUsedOnce jobs)
-      (λ same.
-      let own : uses c.name j ≡ true = own_uses c ∙ ap (λ (n : List ℕ). bytes_eq n name) (sym (same_bytes name c.name same)) ∙ same_bytes-itself name in
-      ap (λ (n : List ℕ). count_by (uses n) jobs) (ending.name j c) ∙ (used_by_first j jobs c own once).1
-      ∙ sym (cond-false {A = ℕ} (is_busy (change j c)) 1 0 (ending.free j c)))
-      (λ other. used_by_others j jobs c (own_uses c ∙ same_bytes-back name c.name other) once)
+  own_once c once = grind (arith, common_steps, cond_both, own_uses, bytes_eq, same_bytes, same_bytes-itself, used_by_first, cond-false, used_by_others, same_bytes-back)
 
   other_there : (bs : List BitmapState) (i : Job) (own : Option (List ℕ)) → is_own name own ≡ false → HasItsBitmap h bs i own
       → HasItsBitmap h (changed (change j) name bs) i own
-  other_there bs i None unused holds = tt
-  other_there bs i (Some other) unused holds = search (rules, changed_other, both_ways, bytes_eq, same_bytes-itself)
+  other_there bs i o unused holds = grind (arith, common_steps, changed_other, both_ways, bytes_eq, same_bytes-itself)
 
   own_changed : (bs : List BitmapState) → IsTrue (stands j.point (timeline_of h)) → AreSoundBitmaps (timeline_of h) bs → AreUsers h (j ∷ jobs) bs
       → AreLeft h jobs (changed (change j) name bs)
@@ -171,7 +154,7 @@ one_left h change ending j jobs (Some name) is bs drawn sound users = own_change
 pub all_given : (h : History) (change : Job → BitmapState → BitmapState) → IsEnding h change → (leaving rest : List Job) (bs : List BitmapState)
     → All (λ (j : Job). IsTrue (stands j.point (timeline_of h))) leaving → AreSoundBitmaps (timeline_of h) bs → AreUsers h (leaving ++ rest) bs
     → AreLeft h rest (change_bitmaps change leaving bs)
-all_given h change ending [] rest bs drawn sound users = search rules
+all_given h change ending [] rest bs drawn sound users = record { sound = sound; users = users }
 all_given h change ending (j ∷ leaving) rest bs drawn sound users =
     let one : AreLeft h (leaving ++ rest) (change_own change j j.bitmap bs) =
     one_left h change ending j (leaving ++ rest) j.bitmap refl bs (All-head (λ (i : Job). IsTrue (stands i.point (timeline_of h))) j leaving drawn) sound users in

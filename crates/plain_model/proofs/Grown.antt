@@ -36,7 +36,7 @@ pub record IsGrown (j new : Job) : Type 0 where
   pub shaped : (size : ℕ) → IsShapedStore size j.store → IsShapedStore size new.store
 
 pub grown_scope : (j new : Job) → IsGrown j new → new.scope ≡ j.scope
-grown_scope j new g = search rules
+grown_scope j new g = ap (λ (i : Job). i.scope) g.same
 
 grown_itself : (j : Job) → IsPart j.copied j.scope → IsGrown j j
 grown_itself j part = search rules
@@ -62,7 +62,7 @@ copies_same size fails (n ∷ units) j = search (rules, copies_same size fails u
 
 pub copies_grow : (size : ℕ) (fails : Option ℕ) (units : List ℕ) (j : Job) → IsPart j.copied j.scope → All (λ (n : ℕ). IsTrue (is_in j.scope n)) units
     → IsGrown j (copies size fails units j).job
-copies_grow size fails [] j part here = search rules
+copies_grow size fails [] j part here = grown_itself j part
 copies_grow size fails (n ∷ units) j part here =
     let InScope : ℕ → Type 0 = λ k. IsTrue (is_in j.scope k) in
     let one : IsGrown j (with_copied size n j) = grown_by_one size n j part (All-head InScope n units here) in
@@ -74,7 +74,7 @@ copies_grow size fails (n ∷ units) j part here =
 pub copies_all : (size : ℕ) (fails : Option ℕ) (units : List ℕ) (j : Job) → IsPart j.copied j.scope → All (λ (n : ℕ). IsTrue (is_in j.scope n)) units
     → length j.copied ≡ length j.scope → (copies size fails units j).stop ≡ None
     → All (λ (n : ℕ). IsTrue (is_in (copies size fails units j).job.copied n)) units
-copies_all size fails [] j part here long = search rules
+copies_all size fails [] j part here long = λ goes. All-nil (λ (n : ℕ). IsTrue (is_in j.copied n))
 copies_all size fails (n ∷ units) j part here long =
     let InScope : ℕ → Type 0 = λ k. IsTrue (is_in j.scope k) in
     let first : IsTrue (is_in j.scope n) = All-head InScope n units here in

@@ -15,20 +15,17 @@ use Rattle.plain_model.specs.Sound.{Differ}
 -- ---- an element in the middle
 
 pub all_insert : {A : Type 0} (P : A → Type 0) (xs ys : List A) (x : A) → All P (xs ++ ys) → P x → All P ((xs ++ x ∷ []) ++ ys)
-all_insert P [] ys x all here = search rules
+all_insert P [] ys x all here = All-cons P x ys here all
 all_insert P (a ∷ xs) ys x all here =
     All-cons P a ((xs ++ x ∷ []) ++ ys) (All-head P a (xs ++ ys) all) (all_insert P xs ys x (All-tail P a (xs ++ ys) all) here)
 
 pub none_insert : {A : Type 0} (p : A → Bool) (xs ys : List A) (x : A) → list_any p (xs ++ ys) ≡ false → p x ≡ false → list_any p ((xs ++ x ∷ []) ++ ys) ≡ false
-none_insert p [] ys x none here = search rules
-none_insert p (a ∷ xs) ys x none here = grind (arith, common_steps)
+none_insert p o ys x none here = grind (arith, common_steps)
 
 pub differ_insert : {A : Type 0} (same : A → A → Bool) (xs ys : List A) (x : A) → ((a b : A) → same a b ≡ false → same b a ≡ false)
     → list_any (same x) (xs ++ ys) ≡ false → Differ same (xs ++ ys) → Differ same ((xs ++ x ∷ []) ++ ys)
-differ_insert same [] ys x flips free differ = search rules
-differ_insert same (a ∷ xs) ys x flips free differ =
-    let parts : (same x a ≡ false) × (list_any (same x) (xs ++ ys) ≡ false) = or_parts (same x a) (list_any (same x) (xs ++ ys)) free in
-    (none_insert (same a) xs ys x differ.0 (flips x a parts.0), differ_insert same xs ys x flips parts.1 differ.1)
+differ_insert same [] ys x flips free differ = (free, differ)
+differ_insert same (a ∷ xs) ys x flips free differ = grind (arith, common_steps, differ_insert same xs ys x flips)
 
 pub permutes_insert : {A : Type 0} (xs ys : List A) (x : A) → IsPermutation ((xs ++ x ∷ []) ++ ys) ((xs ++ ys) ++ x ∷ [])
 permutes_insert xs ys x =
@@ -39,14 +36,12 @@ permutes_insert xs ys x =
 -- ---- an element at the end
 
 pub none_push : {A : Type 0} (p : A → Bool) (xs : List A) (x : A) → list_any p xs ≡ false → p x ≡ false → list_any p (xs ++ x ∷ []) ≡ false
-none_push p xs x none here = grind (arith, common_steps)
+none_push p xs x none here = list_any-append p xs (x ∷ []) ∙ or_from (list_any p xs) (list_any p (x ∷ [])) none (or_from (p x) false here refl)
 
 pub differ_push : {A : Type 0} (same : A → A → Bool) (xs : List A) (x : A) → ((a b : A) → same a b ≡ false → same b a ≡ false)
     → list_any (same x) xs ≡ false → Differ same xs → Differ same (xs ++ x ∷ [])
-differ_push same [] x flips free differ = search rules
-differ_push same (a ∷ xs) x flips free differ =
-    let parts : (same x a ≡ false) × (list_any (same x) xs ≡ false) = or_parts (same x a) (list_any (same x) xs) free in
-    (none_push (same a) xs x differ.0 (flips x a parts.0), differ_push same xs x flips parts.1 differ.1)
+differ_push same [] x flips free differ = (refl, tt)
+differ_push same (a ∷ xs) x flips free differ = grind (arith, common_steps, differ_push same xs x flips)
 
 -- ---- filters
 

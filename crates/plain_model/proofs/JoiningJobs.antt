@@ -27,10 +27,10 @@ pub record IsNewAmong (j : Job) (others : List Job) : Type 0 where
   pub few : length others < most_jobs
 
 flip_id : (i j : Job) → have_one_id i j ≡ false → have_one_id j i ≡ false
-flip_id i j h = search rules
+flip_id i j h = same_bytes-back i.id j.id h
 
 flip_target : (i j : Job) → have_one_target i j ≡ false → have_one_target j i ≡ false
-flip_target i j h = search rules
+flip_target i j h = same_bytes-back i.target j.target h
 
 -- ---- soundness
 
@@ -70,15 +70,14 @@ ids_push jobs all j created moved old =
 
 -- an id that is no view's
 not_view : (jobs views : List Job) (id : List ℕ) → list_any (has_id id) (jobs ++ views) ≡ false → list_any (has_id id) views ≡ false
-not_view jobs views id none = grind (arith, common_steps)
+not_view jobs views id none = (or_parts (list_any (has_id id) jobs) (list_any (has_id id) views) (sym (list_any-append (has_id id) jobs views) ∙ none)).1
 
 pub order_with_job : (jobs views : List Job) (created : List (List ℕ)) (j : Job) → AreInOrder jobs views created → list_any (has_id j.id) (jobs ++ views) ≡ false
     → AreInOrder (jobs ++ j ∷ []) views (created ++ j.id ∷ [])
 order_with_job jobs views created j s free = search (rules, ids_push, permutes_insert, filter-append, cond-false, not_view, append-nil)
 
 or_nothing : (b c : Bool) → c ≡ false → (b || (c || false)) ≡ b
-or_nothing true c h = refl
-or_nothing false c h = search rules
+or_nothing o c h = grind (arith, common_steps)
 
 -- for another id one more view changes no test
 other_id : (views : List Job) (j : Job) (id : List ℕ) → bytes_eq j.id id ≡ false → list_any (has_id id) (views ++ j ∷ []) ≡ list_any (has_id id) views

@@ -22,12 +22,12 @@ use Rattle.plain_model.proofs.Differing.{none_in_filter, filter_differs}
 use Rattle.plain_model.proofs.Giving.{IsEnding, given_back_is_ending, AreLeft, all_given, parted_users}
 
 pub all_front : {X : Type 0} (P : X → Type 0) (xs ys : List X) → All P (xs ++ ys) → All P xs
-all_front P [] ys all = search rules
+all_front P [] ys all = All-nil P
 all_front P (x ∷ xs) ys all = All-cons P x xs (All-head P x (xs ++ ys) all) (all_front P xs ys (All-tail P x (xs ++ ys) all))
 
 pub all_back : {X : Type 0} (P : X → Type 0) (xs ys : List X) → All P (xs ++ ys) → All P ys
 all_back P [] ys all = all
-all_back P (x ∷ xs) ys all = search (rules, all_back P xs ys (All-tail P x (xs ++ ys) all))
+all_back P (x ∷ xs) ys all = all_back P xs ys (All-tail P x (xs ++ ys) all)
 
 -- ---- what stays of jobs and views
 
@@ -112,7 +112,7 @@ leaving_is_sound change leaves m ending s = search (rules, leaving_keeps, leavin
 
 none_stays : (jobs : List Job) → filter (λ (j : Job). not true) jobs ≡ []
 none_stays [] = refl
-none_stays (j ∷ jobs) = search (rules, none_stays jobs)
+none_stays (j ∷ jobs) = none_stays jobs
 
 pub all_left_none : (m : Machine) → runners (all_left m) ≡ []
 unfolding leave

@@ -1,4 +1,6 @@
 -- Want of memory that no action meets has no effect: a command is answered as if memory sufficed, or refused for want of it.
+use Rattle.std.proofs.Common.{arith}
+use Rattle.std.proofs.lemmas.Grind.{common_steps}
 use Rattle.std.proofs.Common.{rules}
 use Rattle.std.proofs.Common.{◌≡◌, ℕ, ◌+◌, Bool, true, false, refl, ap, List, [], ◌∷◌}
 use Rattle.std.specs.Prelude.{Option, Some, None, Result, Ok, Err, if◌then◌else◌, ◌==◌}
@@ -45,18 +47,16 @@ Sufficed result free = (IsForWant result → ⊥) → result ≡ free
 -- so it is for a list of actions
 sufficed-fold : (held : List ℕ → Held) (h : Hindrance) (p : Point) (k : ℕ) (actions : List Action) (m : Machine)
     → Sufficed (fold_actions held h p k actions m) (fold_actions held (with_memory h) p k actions m)
-sufficed-fold held h p k [] m = search rules
+sufficed-fold held h p k [] m = λ none. refl
 sufficed-fold held h p k (a ∷ actions) m = search (rules, sufficed-fold held h p (k + 1) actions)
 
 -- so it is where the point is drawn
 sufficed-drawn : (p : Point) (result free : Result Machine RefusedAt) → Sufficed result free → Sufficed (with_drawn p result) (with_drawn p free)
-sufficed-drawn p (Ok next) free same = search rules
-sufficed-drawn p (Err r) free same = search rules
+sufficed-drawn p o free same = grind (arith, common_steps)
 
 -- so it is behind a test
 sufficed-unless : (b : Bool) (spent result free : Result Machine RefusedAt) → Sufficed result free → Sufficed (if b then spent else result) (if b then spent else free)
-sufficed-unless true spent result free same = search rules
-sufficed-unless false spent result free same = same
+sufficed-unless o spent result free same = grind (arith, common_steps)
 
 -- so it is for a whole transaction
 sufficed-transact : (held : List ℕ → Held) (h : Hindrance) (actions : List Action) (m : Machine)
@@ -73,8 +73,7 @@ IsFreeOf o free = (IsForMemory o.answer → ⊥) → o ≡ free
 -- so is that of a transaction
 free-transaction : (number : ℕ → Option ℕ) (m : Machine) (result free : Result Machine RefusedAt) → Sufficed result free
     → IsFreeOf (after_transaction number result m) (after_transaction number free m)
-free-transaction number m (Ok next) free same = search rules
-free-transaction number m (Err r) free same = search rules
+free-transaction number m o free same = grind (arith, common_steps)
 
 -- a command is answered as if memory sufficed, unless it is refused for want of it
 pub free-command : (held : List ℕ → Held) (h : Hindrance) (c : Command) (m : Machine) → (IsForMemory (command held h c m).answer → ⊥)

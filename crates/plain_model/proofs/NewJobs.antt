@@ -33,8 +33,7 @@ use Rattle.plain_model.proofs.Rising.{next-absent}
 -- ---- the scope
 
 pub scope_count : (size unit : ℕ) (bitmap : Option BitmapState) → length (scope_for size unit bitmap) ≡ granules_in size unit
-scope_count size unit None = grind (arith, common_steps)
-scope_count size unit (Some b) = length-united unit b.bits.granularity (none_of size unit).set b.bits.set ∙ length-replicate (granules_in size unit) false
+scope_count size unit o = grind (arith, common_steps, length-united, none_of, length-replicate)
 
 pub whole_scope : (size unit x : ℕ) → IsAllowed size unit → x < size → is_in (scope_for size unit None) (x / unit) ≡ true
 whole_scope size unit x allowed inside =
@@ -51,12 +50,10 @@ covered_scope t unit x b allowed s idle covered =
 -- ---- the base
 
 pub not_whole : (p : Point) (span : Span) → base_of span p ≡ Whole → ⊥
-not_whole p Unknown h = absurd (cc)
-not_whole p (Known a Now) h = absurd (cc)
-not_whole p (Known a (At b)) h = search rules
+not_whole p o h = grind (arith, common_steps)
 
 pub touched_wider : (set other : ℕ → Type 0) (t : Timeline) (a p : Point) → ((x : ℕ) → set x → other x) → AllTouched set t a (At p) → AllTouched other t a (At p)
-touched_wider set other t a p wider all = search rules
+touched_wider set other t a p wider all = All-weaker (AllBytes set) (AllBytes other) (λ e each x low high. wider x (each x low high)) (touched t a (At p)) all
 
 -- the bitmap that a job is to use, if any, is sound, and no job uses it
 abbrev pub IsReady : Timeline → Option BitmapState → Type 0
@@ -86,8 +83,7 @@ module _ (h0 : History) (p : Point) (rising : IsRising (with_point (timeline_of 
 
   scope_holds : (found : Option BitmapState) → IsReady (timeline_of (with_entry h0 (Reached p))) found
       → ScopeHolds (with_entry h0 (Reached p)) (new_job (length h0.start) p a found store) (base_for p found)
-  scope_holds None ready = λ x inside. whole_scope (length h0.start) store.cluster x allowed inside
-  scope_holds (Some b) ready = base_holds b (base_at p b) ready.0 ready.1 refl
+  scope_holds o ready = grind (arith, common_steps, whole_scope, base_holds)
 
   pub new_job_shaped : (found : Option BitmapState) → IsShapedStore (length h0.start) store → IsShapedJob (length h0.start) (new_job (length h0.start) p a found store)
   new_job_shaped found shape = search (rules, scope_count, length-replicate, both_ways, is_in-replicate)

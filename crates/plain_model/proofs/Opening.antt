@@ -35,8 +35,8 @@ first_after epoch serial q h = grind (arith, nat_tests)
 
 -- it stands after all of earlier epochs
 pub rises_to : (epoch serial : ℕ) (xs : List timelines.Entry) → All (IsOfEpoch epoch) xs → Rise xs → Rise (xs ++ timelines.Reached (record { epoch = epoch + 1; serial = serial }) ∷ [])
-rises_to epoch serial [] old rising = search rules
-rises_to epoch serial (timelines.Wrote e ∷ xs) old rising = search (rules, rises_to epoch serial xs (All-tail (IsOfEpoch epoch) (timelines.Wrote e) xs old) rising)
+rises_to epoch serial [] old rising = (All-nil (λ m. IsTrue (is_after (record { epoch = epoch + 1; serial = serial }) m)), tt)
+rises_to epoch serial (timelines.Wrote e ∷ xs) old rising = rises_to epoch serial xs (All-tail (IsOfEpoch epoch) (timelines.Wrote e) xs old) rising
 rises_to epoch serial (timelines.Reached q ∷ xs) old rising =
     let p : Point = record { epoch = epoch + 1; serial = serial } in
     let later : All (λ m. IsTrue (is_after q m)) (timelines.Reached p ∷ []) =

@@ -63,8 +63,7 @@ pointed_successor h p q None s = s
 pointed_successor h p q (Some b) s = λ on. touched_now-reached (that_pass (successor_has b.successor)) h p q (s on)
 
 pointed_own : (h : History) (p : Point) (bs : List BitmapState) (j : Job) (own : Option (List ℕ)) → HasItsBitmap h bs j own → HasItsBitmap (with_entry h (Reached p)) bs j own
-pointed_own h p bs j None s = tt
-pointed_own h p bs j (Some name) s = pointed_successor h p j.point (named name bs) s
+pointed_own h p bs j o s = grind (arith, common_steps, pointed_successor)
 
 pub pointed_users : (h : History) (p : Point) (jobs : List Job) (bs : List BitmapState) → AreUsers h jobs bs → AreUsers (with_entry h (Reached p)) jobs bs
 pointed_users h p jobs bs s = record {

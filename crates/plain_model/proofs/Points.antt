@@ -30,13 +30,13 @@ abbrev pub more_of : Timeline → List timelines.Entry → Timeline
 more_of t ms = record { start = t.start; entries = t.entries ++ ms }
 
 pub timeline-more : (h : History) (es : List Entry) → timeline_of (with_entries h es) ≡ more_of (timeline_of h) (map without_bytes es)
-timeline-more h es = grind (arith, common_steps)
+timeline-more h es = ap (λ (ms : List timelines.Entry). record { start = length h.start; entries = ms }) (map-append without_bytes h.entries es)
 
 pub timeline-wrote : (h : History) (at : ℕ) (bytes : List ℕ) → timeline_of (with_entry h (Wrote at bytes)) ≡ with_write (timeline_of h) (record { at = at; size = length bytes })
-timeline-wrote h at bytes = grind (arith, common_steps)
+timeline-wrote h at bytes = timeline-more h (Wrote at bytes ∷ [])
 
 pub timeline-reached : (h : History) (p : Point) → timeline_of (with_entry h (Reached p)) ≡ with_point (timeline_of h) p
-timeline-reached h p = grind (arith, common_steps)
+timeline-reached h p = timeline-more h (Reached p ∷ [])
 
 -- ---- its disks
 
@@ -52,13 +52,7 @@ now-reached h p = now-more h (Reached p ∷ [])
 before-more : (p : Point) (xs ys : List Entry) → has_point p (map without_bytes xs) ≡ true → entries_before p (xs ++ ys) ≡ entries_before p xs
 before-more p [] ys h = absurd (both_ways false refl h)
 before-more p (Wrote at bytes ∷ xs) ys h = search (rules, before-more p xs ys (past_write p (record { at = at; size = length bytes }) (map without_bytes xs) h))
-before-more p (Reached q ∷ xs) ys h =
-    elim (cases_Bool (same_point p q)) [
-      | inl same ↦ cond-true (same_point p q) [] (Reached q ∷ entries_before p (xs ++ ys)) same ∙ sym (cond-true (same_point p q) [] (Reached q ∷ entries_before p xs) same)
-      | inr other ↦ cond-false (same_point p q) [] (Reached q ∷ entries_before p (xs ++ ys)) other
-          ∙ (ap (λ (zs : List Entry). Reached q ∷ zs) (before-more p xs ys (past_other p q (map without_bytes xs) other h))
-          ∙ sym (cond-false (same_point p q) [] (Reached q ∷ entries_before p xs) other))
-    ]
+before-more p (Reached q ∷ xs) ys h = grind (arith, common_steps, before-more p xs ys)
 
 -- the disk at a point that stands stays
 pub disk_at-more : (h : History) (es : List Entry) (p : Point) → IsTrue (stands p (timeline_of h)) → disk_at (with_entries h es) p ≡ disk_at h p
@@ -68,12 +62,9 @@ pub disk_at-entry : (h : History) (entry : Entry) (p : Point) → IsTrue (stands
 disk_at-entry h entry p there = disk_at-more h (entry ∷ []) p there
 
 before-new : (p : Point) (xs : List Entry) → has_point p (map without_bytes xs) ≡ false → entries_before p (xs ++ Reached p ∷ []) ≡ xs
-before-new p [] absent = search rules
+before-new p [] absent = cond-true (same_point p p) [] (Reached p ∷ []) (same_point-itself p)
 before-new p (Wrote at bytes ∷ xs) absent = search (rules, before-new p xs)
-before-new p (Reached q ∷ xs) absent =
-    let neither = or_parts (same_point p q) (has_point p (map without_bytes xs)) absent in
-    cond-false (same_point p q) [] (Reached q ∷ entries_before p (xs ++ Reached p ∷ [])) neither.0
-    ∙ ap (λ (zs : List Entry). Reached q ∷ zs) (before-new p xs neither.1)
+before-new p (Reached q ∷ xs) absent = grind (arith, common_steps, before-new p xs)
 
 -- at a new point it is the disk now
 pub disk_at-new : (h : History) (p : Point) → stands p (timeline_of h) ≡ false → disk_at (with_entry h (Reached p)) p ≡ now h
@@ -81,7 +72,7 @@ disk_at-new h p absent = ap (disk_after h.start) (before-new p h.entries absent)
 
 inside-before : (size : ℕ) (p : Point) (xs : List Entry) → LieInside size (map without_bytes xs) → LieInside size (map without_bytes (entries_before p xs))
 inside-before size p [] inside = tt
-inside-before size p (Wrote at bytes ∷ xs) inside = search (rules, inside-before size p xs inside.1)
+inside-before size p (Wrote at bytes ∷ xs) inside = (inside.0, inside-before size p xs inside.1)
 inside-before size p (Reached q ∷ xs) inside = search (rules, inside-before size p xs inside)
 
 pub length-disk_at : (h : History) (p : Point) → StaysInside h → length (disk_at h p) ≡ length h.start
@@ -90,13 +81,13 @@ length-disk_at h p inside = length-disk_after h.start (entries_before p h.entrie
 -- ---- what stands and what was touched
 
 pub stands-more : (h : History) (es : List Entry) (p : Point) → IsTrue (stands p (timeline_of h)) → IsTrue (stands p (timeline_of (with_entries h es)))
-stands-more h es p there = grind (arith, common_steps)
+stands-more h es p there = subst (λ (t : Timeline). IsTrue (stands p t)) (sym (timeline-more h es)) (has_point-more p (timeline_of h).entries (map without_bytes es) there)
 
 pub stands-entry : (h : History) (entry : Entry) (p : Point) → IsTrue (stands p (timeline_of h)) → IsTrue (stands p (timeline_of (with_entry h entry)))
-stands-entry h entry p there = grind (arith, common_steps)
+stands-entry h entry p there = stands-more h (entry ∷ []) p there
 
 pub stands-new : (h : History) (p : Point) → IsTrue (stands p (timeline_of (with_entry h (Reached p))))
-stands-new h p = grind (arith, common_steps)
+stands-new h p = subst (λ (t : Timeline). IsTrue (stands p t)) (sym (timeline-reached h p)) (last_stands p (timeline_of h).entries)
 
 -- what was touched up to a point that stands stays
 pub touched-more : (set : ℕ → Type 0) (h : History) (es : List Entry) (a b : Point) → IsTrue (stands b (timeline_of h))
@@ -110,13 +101,7 @@ touched-entry set h entry a b there all = touched-more set h (entry ∷ []) a b 
 -- up to now a write's bytes are added
 pub touched_now-wrote : (set : ℕ → Type 0) (h : History) (at : ℕ) (bytes : List ℕ) (a : Point) → IsTrue (stands a (timeline_of h))
     → AllBytes set (record { at = at; size = length bytes }) → AllTouched set (timeline_of h) a Now → AllTouched set (timeline_of (with_entry h (Wrote at bytes))) a Now
-touched_now-wrote set h at bytes a there new all =
-    let e : timelines.Extent = record { at = at; size = length bytes } in
-    let xs : List timelines.Entry = (timeline_of h).entries in
-    let is : touched (with_write (timeline_of h) e) a Now ≡ touched (timeline_of h) a Now ++ e ∷ [] =
-    ap writes (after_point-append a xs (timelines.Wrote e ∷ []) there) ∙ writes-append (after_point a xs) (timelines.Wrote e ∷ []) in
-    subst (λ (t : Timeline). AllTouched set t a Now) (sym (timeline-wrote h at bytes))
-    (subst (All (AllBytes set)) (sym is) (All-append (AllBytes set) (touched (timeline_of h) a Now) (e ∷ []) all (All-cons (AllBytes set) e [] new (All-nil (AllBytes set)))))
+touched_now-wrote set h at bytes a there new all = grind (arith, common_steps, after_point-append, there, writes-append, timeline-wrote)
 
 pub touched_now-reached : (set : ℕ → Type 0) (h : History) (p a : Point) → AllTouched set (timeline_of h) a Now → AllTouched set (timeline_of (with_entry h (Reached p))) a Now
 touched_now-reached set h p a all = search (rules, timeline-reached, touched-point)

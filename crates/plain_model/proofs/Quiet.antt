@@ -1,4 +1,5 @@
 -- Where no count rose and nothing is refused for want of memory, an event is answered as if nothing could go wrong.
+use Rattle.std.proofs.lemmas.Grind.{common_steps}
 use Rattle.std.proofs.Common.{rules}
 use Rattle.std.proofs.Common.{◌≡◌, ℕ, Bool, false, inl, inr, refl, sym, ap, subst, ◌∙◌, arith, List, [], ◌∷◌, ◌++◌, map}
 use Rattle.std.specs.Prelude.{Option, Some, None, is_some, ◌⊎◌, All, Contains, find, if◌then◌else◌}
@@ -26,8 +27,7 @@ use Rattle.plain_model.proofs.Memory.{with_memory, free-command}
 
 -- nor did one on either of two files
 neither_failed : (rise : Rise) (source target : List ℕ) → IsQuiet rise → HasFailed rise source ⊎ HasFailed rise target → ⊥
-neither_failed rise source target quiet (inl failed) = search rules
-neither_failed rise source target quiet (inr failed) = search rules
+neither_failed rise source target quiet o = grind (arith, common_steps)
 
 -- a request went well
 went_well : (rise : Rise) (source : List ℕ) (t : Trouble) (old : Machine) (r : Request) → IsQuiet rise → IsRequestTied rise source t old (Guest r) → t.request ≡ Well
@@ -35,7 +35,7 @@ went_well rise source t old r quiet tied = search rules
 
 -- none passes a test that finds none
 none_found : (test : Job → Bool) (jobs : List Job) → find test jobs ≡ None → All (λ (j : Job). test j ≡ false) jobs
-none_found test [] none = search rules
+none_found test [] none = All-nil (λ (j : Job). test j ≡ false)
 none_found test (j ∷ jobs) none = search (rules, none_found test jobs)
 
 -- no device call fails for the job or view
@@ -61,7 +61,7 @@ all_free rise source t old quiet tied =
 
 -- nothing but want of memory hindered a command
 unhindered : (h : Hindrance) → ((name : List ℕ) → h.unread name ≡ false) → with_memory h ≡ no_trouble.hindrance
-unhindered h unread = search rules
+unhindered h unread = λ i. record { unread = λ name. unread name i; memory = None }
 
 -- ---- an event without trouble
 
@@ -75,7 +75,7 @@ map_same f g (x ∷ xs) same =
 
 -- a job for which no call failed copies as without trouble
 same_try : (t : Trouble) (e : Extent) (size : ℕ) (j : Job) → IsFree t j → tried_before t e size j ≡ tried_before no_trouble e size j
-same_try t e size j free = search rules
+same_try t e size j free = rw free
 
 -- a machine whose jobs and views have tried to copy
 abbrev copied_as : List Tried → List Job → List Job → Machine → Noted
@@ -124,8 +124,7 @@ IsCalm (CarriedInPart bytes) = ⊥
 
 -- where a request went well, its fate meets no fault, whether it is denied or not
 calm_well : (why : Option Errno) (r : Request) (m : Machine) → IsCalm (fate_after why Well r m)
-calm_well (Some errno) r m = tt
-calm_well None r m = search rules
+calm_well o r m = grind (arith, common_steps)
 
 -- the same of the fate as it is defined
 calm : (t : Trouble) (r : Request) (m : Machine) → t.request ≡ Well → IsCalm (fate t r m)
@@ -135,18 +134,10 @@ calm t r m well = subst IsCalm (sym (fate-is t r m ∙ ap (λ (end : RequestEnd)
 same_fate : (t : Trouble) (r : Request) (m : Machine) → t.request ≡ Well → fate t r m ≡ fate no_trouble r m
 same_fate t r m well = fate-is t r m ∙ (ap (λ (end : RequestEnd). fate_after (denial r m) end r m) well ∙ sym (fate-is no_trouble r m))
 
--- a request that is carried out, once copies are made
-abbrev carried_as : Request → Machine → Noted → Outcome
-carried_as r m n =
-    if is_write r.work then with_reply Done (record n { machine = after_marking (range_of r) (bytes_of r r.work) n.machine }) else answered (granted r r.work m) m
-
 -- what follows from a fate without fault is the same without trouble
 same_by_fate : (f : Fate) (t : Trouble) (r : Request) (m : Machine) → IsCalm f → All (IsFree t) (runners m)
     → or_break (breaks_by f t r.work) (by_fate f t r m) ≡ or_break (breaks_by f no_trouble r.work) (by_fate f no_trouble r m)
-same_by_fate (Denied errno) t r m calm free = refl
-same_by_fate Lost t r m calm free = absurd calm
-same_by_fate Carried t r m calm free = ap (carried_as r m) (same_copying t (range_of r) m free)
-same_by_fate (CarriedInPart bytes) t r m calm free = absurd calm
+same_by_fate o t r m calm free = grind (arith, common_steps, calm, same_copying)
 
 -- a request that went well is answered as without trouble
 same_guest : (t : Trouble) (r : Request) (m : Machine) → t.request ≡ Well → All (IsFree t) (runners m) → guest t r m ≡ guest no_trouble r m
@@ -176,9 +167,7 @@ same_outcome source held rise t old Tick answer quiet faults none = same_tick t 
 -- and the source's space is what it becomes without trouble
 same_space : (source : List ℕ) (rise : Rise) (t : Trouble) (old : Machine) (event : Event) (answer : Answer) (new : Machine) → IsQuiet rise
     → StepFaults source rise t old event answer → StepSpace t old event new → StepSpace no_trouble old event new
-same_space source rise t old (Guest r) answer new quiet faults space = search (rules, same_fate, went_well)
-same_space source rise t old (Monitor c) answer new quiet faults space = space
-same_space source rise t old Tick answer new quiet faults space = space
+same_space source rise t old o answer new quiet faults space = grind (arith, common_steps, same_fate, went_well)
 
 -- where no count rose and nothing is refused for want of memory, answer, state and space are those without trouble
 pub quiet_owed : (source : List ℕ) (held : List ℕ → Held) (rise : Rise) (old : Machine) (event : Event) (answer : Answer) (new : Machine)

@@ -1,4 +1,6 @@
 -- Points that rise, as a timeline or a history goes on.
+use Rattle.std.proofs.Common.{arith}
+use Rattle.std.proofs.lemmas.Grind.{common_steps}
 use Rattle.std.proofs.Common.{rules}
 use Rattle.std.proofs.Common.{◌≡◌, ℕ, ◌+◌, ◌≤◌, true, false, inl, inr, refl, sym, subst, List, [], ◌∷◌, ◌++◌, length, append_assoc}
 use Rattle.std.specs.Prelude.{All, IsTrue}
@@ -22,29 +24,28 @@ AreWrites (Wrote e ∷ ms) = AreWrites ms
 AreWrites (Reached p ∷ ms) = ⊥
 
 after-writes : (p : Point) (ms : List Entry) → AreWrites ms → All (λ m. IsTrue (is_after p m)) ms
-after-writes p [] are = search rules
-after-writes p (Wrote e ∷ ms) are = search (rules, after-writes p ms are)
+after-writes p [] are = All-nil (λ m. IsTrue (is_after p m))
+after-writes p (Wrote e ∷ ms) are = All-cons (λ m. IsTrue (is_after p m)) (Wrote e) ms refl (after-writes p ms are)
 after-writes p (Reached q ∷ ms) are = absurd are
 
 writes-rise : (ms : List Entry) → AreWrites ms → Rise ms
 writes-rise [] are = tt
-writes-rise (Wrote e ∷ ms) are = search (rules, writes-rise ms are)
+writes-rise (Wrote e ∷ ms) are = writes-rise ms are
 writes-rise (Reached q ∷ ms) are = absurd are
 
 -- points rise where writes follow
 pub rise-writes : (xs ms : List Entry) → Rise xs → AreWrites ms → Rise (xs ++ ms)
 rise-writes [] ms rising are = writes-rise ms are
-rise-writes (Wrote e ∷ xs) ms rising are = search (rules, rise-writes xs ms rising are)
-rise-writes (Reached p ∷ xs) ms rising are =
-    (All-append (λ m. IsTrue (is_after p m)) xs ms rising.0 (after-writes p ms are), rise-writes xs ms rising.1 are)
+rise-writes (Wrote e ∷ xs) ms rising are = rise-writes xs ms rising are
+rise-writes (Reached p ∷ xs) ms rising are = grind (arith, common_steps, rise-writes xs ms rising.1 are, after-writes)
 
 all-amid : (P : Entry → Type 0) (m : Entry) (xs ys : List Entry) → P m → All P (xs ++ ys) → All P (xs ++ m ∷ ys)
-all-amid P m [] ys here all = search rules
+all-amid P m [] ys here all = All-cons P m ys here all
 all-amid P m (x ∷ xs) ys here all = All-cons P x (xs ++ m ∷ ys) (All-head P x (xs ++ ys) all) (all-amid P m xs ys here (All-tail P x (xs ++ ys) all))
 
 rise-amid : (e : Extent) (xs ys : List Entry) → Rise (xs ++ ys) → Rise (xs ++ Wrote e ∷ ys)
 rise-amid e [] ys rising = rising
-rise-amid e (Wrote f ∷ xs) ys rising = search (rules, rise-amid e xs ys rising)
+rise-amid e (Wrote f ∷ xs) ys rising = rise-amid e xs ys rising
 rise-amid e (Reached p ∷ xs) ys rising =
     (all-amid (λ m. IsTrue (is_after p m)) (Wrote e) xs ys refl rising.0, rise-amid e xs ys rising.1)
 
@@ -53,7 +54,7 @@ pub rising-write : (t : Timeline) (e : Extent) (p : Point) → IsRising (with_po
 rising-write t e p rising = subst Rise (sym (append_assoc t.entries (Wrote e ∷ []) (Reached p ∷ []))) (rise-amid e t.entries (Reached p ∷ []) rising)
 
 rise-last : (q : Point) (xs : List Entry) → Rise xs → ArePast q xs → Rise (xs ++ Reached q ∷ [])
-rise-last q [] rising early = search rules
+rise-last q [] rising early = (All-nil (λ m. IsTrue (is_after q m)), tt)
 rise-last q (Wrote e ∷ xs) rising early = rise-last q xs rising (All-tail (λ m. IsTrue (is_before q m)) (Wrote e) xs early)
 rise-last q (Reached p ∷ xs) rising early = (
   All-append (λ m. IsTrue (is_after p m)) xs (Reached q ∷ []) rising.0
@@ -62,8 +63,7 @@ rise-last q (Reached p ∷ xs) rising early = (
 )
 
 past-later : (p q : Point) → IsTrue (precedes p q) → (m : Entry) → IsTrue (is_before p m) → IsTrue (is_before q m)
-past-later p q order (Wrote e) early = refl
-past-later p q order (Reached r) early = search rules
+past-later p q order o early = grind (arith, common_steps)
 
 -- a point after the last one is after all others
 pub rising-point : (t : Timeline) (p q : Point) → IsRising (with_point t p) → IsTrue (precedes p q) → IsRising (with_point (with_point t p) q)

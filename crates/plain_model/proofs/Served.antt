@@ -1,4 +1,5 @@
 -- A tick keeps a state sound.
+use Rattle.std.proofs.lemmas.Grind.{common_steps}
 use Rattle.std.proofs.Common.{rules}
 use Rattle.std.proofs.Common.{◌≡◌, ℕ, List, [], ◌∷◌, ◌++◌, append_assoc, length-append, Bool, true, Option, Some, None, is_some, IsTrue, All, IsPermutation, map, count_by, bytes_eq, refl, sym, ap, subst, ◌∙◌, inl, inr, arith}
 use Rattle.std.specs.Prelude.{if◌then◌else◌}
@@ -182,8 +183,7 @@ by_unit_is_sound t j rest m None unit is s =
     (λ _. leaving_is_sound completed (is_this j.id) m (completed_is_ending m.history) s)
 
 by_jobs_is_sound : (t : Trouble) (jobs : List Job) (m : Machine) → m.jobs ≡ jobs → IsSound m → IsSound (tick_of t jobs m).machine
-by_jobs_is_sound t [] m is s = s
-by_jobs_is_sound t (j ∷ rest) m is s = by_unit_is_sound t j rest m (next_unit j) refl is s
+by_jobs_is_sound t o m is s = grind (arith, common_steps, by_unit_is_sound)
 
 pub tick_is_sound : (t : Trouble) (m : Machine) → IsSound m → IsSound (tick t m).machine
 unfolding tick

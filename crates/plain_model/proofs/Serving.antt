@@ -20,14 +20,14 @@ pub record IsCopying (h : History) (f : Job → Job) : Type 0 where
 
 pub map-map : {X Y Z : Type 0} (f : Y → Z) (g : X → Y) (k : X → Z) → ((x : X) → f (g x) ≡ k x) → (xs : List X) → map f (map g xs) ≡ map k xs
 map-map f g k so [] = refl
-map-map {X} {Y} {Z} f g k so (x ∷ xs) = search (rules, map-map f g k so xs)
+map-map {X} {Y} {Z} f g k so (x ∷ xs) = ap (λ (z : Z). z ∷ map f (map g xs)) (so x) ∙ ap (λ (zs : List Z). k x ∷ zs) (map-map f g k so xs)
 
 module _ (h : History) (f : Job → Job) (is : IsCopying h f) where
   id_same : (j : Job) → (f j).id ≡ j.id
-  id_same j = search rules
+  id_same j = ap (λ (i : Job). i.id) (is.same j)
 
   same_ids : (i j : Job) → have_one_id (f i) (f j) ≡ have_one_id i j
-  same_ids i j = search rules
+  same_ids i j = ap (λ (id : List ℕ). bytes_eq id (f j).id) (id_same i) ∙ ap (bytes_eq i.id) (id_same j)
 
   same_targets : (i j : Job) → have_one_target (f i) (f j) ≡ have_one_target i j
   same_targets i j = search rules

@@ -1,4 +1,5 @@
 -- What the settling of a history adds to it: writes alone, which lead to the disk that was found.
+use Rattle.std.proofs.lemmas.Grind.{common_steps}
 use Rattle.std.proofs.Common.{rules}
 use Rattle.std.proofs.Common.{◌≡◌, ℕ, zero, suc, ◌+◌, ◌-◌, ◌*◌, ◌/◌, ◌<◌, ◌≤◌, min, inl, inr, refl, sym, ap, subst, ◌∙◌, arith, List, [], ◌∷◌, length, map, take, drop, get_or}
 use Rattle.std.specs.Prelude.{All, Any, ◌==◌, nat_lt, if◌then◌else◌, bytes_eq}
@@ -69,7 +70,7 @@ due-kept : (disk d : List ℕ) (x at : ℕ) (r : Run) (runs : List Run) → (r.f
 due-kept disk d x at r runs other due = search rules
 
 byte_settled : (disk d : List ℕ) (x at : ℕ) (runs : List Run) → x < length disk → IsDue disk d x at runs → get_or (disk_after d (writes_of disk at runs)) x 0 ≡ get_or disk x 0
-byte_settled disk d x at [] inside due = search rules
+byte_settled disk d x at [] inside due = elim (cases_lt x at) [ inl first ↦ due.before first | inr later ↦ due.unflagged later (λ flagged. absurd (omega (arith, flagged))) ]
 byte_settled disk d x at (r ∷ runs) inside due =
     let bytes : List ℕ = take r.length (drop at disk) in
     cond_both (r.flags == 1) (Wrote at bytes ∷ writes_of disk (at + r.length) runs) (writes_of disk (at + r.length) runs)
@@ -156,7 +157,7 @@ abbrev IsUnflagged : Run → Type 0
 IsUnflagged r = r.flags ≡ 0
 
 unflagged-parts : (e : Extent) (k : ℕ) (flags : List ℕ) → All (λ f. f ≡ 0) flags → All IsUnflagged (parts_of 512 e k flags)
-unflagged-parts e k [] all = search rules
+unflagged-parts e k [] all = All-nil IsUnflagged
 unflagged-parts e k (f ∷ flags) all =
     let r : Run = record { length = shared e (granule 512 k); flags = f } in
     let rest : All IsUnflagged (parts_of 512 e (k + 1) flags) = unflagged-parts e (k + 1) flags (All-tail (λ f. f ≡ 0) f flags all) in
@@ -164,7 +165,7 @@ unflagged-parts e k (f ∷ flags) all =
     (λ _. All-cons IsUnflagged r (parts_of 512 e (k + 1) flags) (All-head (λ f. f ≡ 0) f flags all) rest) (λ _. rest)
 
 unflagged-front : (r : Run) (runs : List Run) → IsUnflagged r → All IsUnflagged runs → All IsUnflagged (put_in_front r runs)
-unflagged-front r [] none all = search rules
+unflagged-front r [] none all = All-cons IsUnflagged r [] none all
 unflagged-front r (s ∷ runs) none all =
     let one : Run = record { length = r.length + s.length; flags = r.flags } in
     cond_both (r.flags == s.flags) (one ∷ runs) (r ∷ s ∷ runs) (All IsUnflagged)
@@ -199,8 +200,7 @@ nothing_settles h = search (rules, no_writes, unflagged-runs, no_difference, wit
 
 -- where a sector is one of a single disk's, it is that disk's
 sector-kept : (last disk : List ℕ) (k : ℕ) → Any (λ d. sector d k ≡ sector disk k) (last ∷ []) → sector last k ≡ sector disk k
-sector-kept last disk k (zero, d, below, is, same) = search rules
-sector-kept last disk k (suc i, d, below, is, same) = absurd (omega (arith, below))
+sector-kept last disk k o = grind (arith, common_steps)
 
 -- of one disk in whole sectors a crash leaves the disk itself
 pub last_kept : (n : ℕ) (last disk : List ℕ) → length last ≡ n * 512 → Kept (last ∷ []) disk → disk ≡ last

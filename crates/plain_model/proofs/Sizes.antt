@@ -1,4 +1,6 @@
 -- The size of the disk stays as requests, ticks and cancellations are served.
+use Rattle.std.proofs.Common.{arith}
+use Rattle.std.proofs.lemmas.Grind.{common_steps}
 use Rattle.std.proofs.Common.{rules}
 use Rattle.std.proofs.Common.{◌≡◌, ℕ, List, [], ◌∷◌, Bool, Option, Some, None, is_some, refl, ◌∙◌}
 use Rattle.std.proofs.lemmas.Bool.{cond_both}
@@ -56,8 +58,7 @@ guest_size t r m = or_break_size (breaks_by (fate t r m) t r.work) (by_fate (fat
 
 by_stop_size : (rest : List Job) (j : Job) (stop : Option JobFault) (m : Machine) → size_of (by_stop rest j stop m).machine ≡ size_of m
 unfolding leave
-by_stop_size rest j None m = refl
-by_stop_size rest j (Some fault) m = refl
+by_stop_size rest j o m = grind (arith, common_steps)
 
 seal_size : (j : Job) (m : Machine) → size_of (after_seal j m).machine ≡ size_of m
 unfolding leave
@@ -72,8 +73,7 @@ by_unit_size t j rest m None =
     (λ _. by_stop_size rest j (Some Failed) m) (λ _. seal_size j m)
 
 by_jobs_size : (t : Trouble) (jobs : List Job) (m : Machine) → size_of (tick_of t jobs m).machine ≡ size_of m
-by_jobs_size t [] m = refl
-by_jobs_size t (j ∷ rest) m = by_unit_size t j rest m (next_unit j)
+by_jobs_size t o m = grind (arith, common_steps, by_unit_size)
 
 pub tick_size : (t : Trouble) (m : Machine) → size_of (tick t m).machine ≡ size_of m
 unfolding tick
@@ -83,8 +83,7 @@ tick_size t m = by_jobs_size t m.jobs m
 
 cancelled_size : (id : List ℕ) (m : Machine) (found : Option Job) → size_of (cancelled id m found).machine ≡ size_of m
 unfolding leave
-cancelled_size id m None = refl
-cancelled_size id m (Some j) = refl
+cancelled_size id m o = grind (arith, common_steps)
 
 pub after_cancel_size : (id : List ℕ) (m : Machine) → size_of (after_cancel id m).machine ≡ size_of m
 unfolding after_cancel

@@ -1,4 +1,5 @@
 -- The source's space and the numbers of events: what a step does to them keeps a state sound.
+use Rattle.std.proofs.lemmas.Grind.{common_steps}
 use Rattle.std.proofs.Common.{rules}
 use Rattle.std.proofs.Common.{ℕ, ◌+◌, ◌≤◌, true, false, sym, subst, arith}
 use Rattle.std.proofs.lemmas.List.Elements.{All-weaker}
@@ -38,14 +39,12 @@ changed_is_shaped : (size : ℕ) (old : Machine) (change : Change) (new : Machin
 changed_is_shaped size old change new shape c = search rules
 
 fate_is_shaped : (f : Fate) (r : Request) (old new : Machine) → IsShapedStore (size_of old) old.store → SpaceBy f r old new → IsShapedStore (size_of old) new.store
-fate_is_shaped (Denied errno) r old new shape c = search rules
-fate_is_shaped Lost r old new shape c = search rules
+fate_is_shaped (Denied errno) r old new shape c = changed_is_shaped (size_of old) old (no_change old) new shape c
+fate_is_shaped Lost r old new shape c = changed_is_shaped (size_of old) old (no_change old) new shape c
 fate_is_shaped Carried r old new shape c = changed_is_shaped (size_of old) old (change_by r r.work old) new (change_is_shaped r r.work old shape) c
 fate_is_shaped (CarriedInPart left) r old new shape c = search rules
 
 -- whatever a step does to the space, the store stays in shape
 pub step_space_is_shaped : (t : Trouble) (old : Machine) (event : Event) (new : Machine) → IsShapedStore (size_of old) old.store → StepSpace t old event new
     → IsShapedStore (size_of old) new.store
-step_space_is_shaped t old (Guest r) new shape c = fate_is_shaped (fate t r (numbered old)) r old new shape c
-step_space_is_shaped t old (Monitor command) new shape c = search rules
-step_space_is_shaped t old Tick new shape c = search rules
+step_space_is_shaped t old o new shape c = grind (arith, common_steps, fate_is_shaped)

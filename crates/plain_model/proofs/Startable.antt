@@ -30,7 +30,7 @@ AllNone (o ∷ rest) = (o ≡ None) × AllNone rest
 
 pub first_none : {A : Type 0} (tests : List (Option A)) → first_of tests ≡ None → AllNone tests
 first_none [] h = tt
-first_none (None ∷ rest) h = search (rules, first_none rest h)
+first_none (None ∷ rest) h = (refl, first_none rest h)
 first_none (Some a ∷ rest) h = absurd (none-some a (sym h))
 
 pub usable_none : (name : List ℕ) (m : Machine) → unusable name m ≡ None → (b : BitmapState) × IsUsable (named name m.bitmaps) b

@@ -33,8 +33,7 @@ use Rattle.plain_model.proofs.Startable.{usable_none, IsStartable, backup_none}
 use Rattle.plain_model.proofs.Acted.{KeepsRest, keeps_as, IsActed}
 
 none_from : {A : Type 0} (o : Option A) → is_some o ≡ false → o ≡ None
-none_from None h = refl
-none_from (Some a) h = absurd (both_ways true h refl)
+none_from o h = grind (arith, common_steps)
 
 -- the bitmap that a job is to use
 abbrev pub found_for : Option (List ℕ) → Machine → Option BitmapState
@@ -101,10 +100,7 @@ module _ (h : History) (t : Timeline) (p : Point) (is : timeline_of h ≡ with_p
       (view_starts h m j s whole sound (record { base_is = full free; free = free }) new)
 
 with_job_rest : (sync : SyncKind) (m : Machine) (j : Job) (bs : List BitmapState) → KeepsRest m (with_job sync j (with_set m bs))
-with_job_rest Full m j bs = search rules
-with_job_rest Incremental m j bs = search rules
-with_job_rest Bitmap m j bs = search rules
-with_job_rest Nothing m j bs = search rules
+with_job_rest o m j bs = grind (arith, common_steps)
 
 -- ---- the action
 

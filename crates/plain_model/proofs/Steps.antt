@@ -1,4 +1,6 @@
 -- One event of the whole machine: where its outcome is sound, so is the machine after it.
+use Rattle.std.proofs.Common.{arith}
+use Rattle.std.proofs.lemmas.Grind.{common_steps}
 use Rattle.std.proofs.Common.{rules}
 use Rattle.std.proofs.Common.{◌≡◌, ℕ, List, sym, subst}
 use Rattle.core_events.specs.Events.{Request, Event, Guest, Monitor, Tick}
@@ -30,9 +32,7 @@ stepped_is_sound held t old event answer new o s contents space = search (rules,
 
 -- what a write left doesn't hang on the number of the event
 left_numbered : (end : RequestEnd) (r : Request) (m : Machine) → IsLeft end r m → IsLeft end r (numbered m)
-left_numbered Well r m left = left
-left_numbered Untouched r m left = left
-left_numbered (Torn bytes) r m left = left
+left_numbered o r m left = grind (arith, common_steps)
 
 pub guest_outcome : (held : List ℕ → Held) (t : Trouble) (r : Request) (old : Machine) → HasBytes r r.work → IsLeft t.request r old → IsSound old
     → IsSoundOutcome held t (Guest r) old

@@ -1,4 +1,6 @@
 -- Files are taken exactly where they are a chain.
+use Rattle.std.proofs.Common.{arith}
+use Rattle.std.proofs.lemmas.Grind.{common_steps}
 use Rattle.std.proofs.Common.{rules}
 use Rattle.std.proofs.Common.{◌≡◌, ◌≢◌, ℕ, ◌+◌, Bool, true, false, refl, sym, ap, subst, ◌∙◌, List, [], ◌∷◌, map}
 use Rattle.std.specs.Prelude.{Option, Some, None, Ok, not, ◌==◌, bytes_eq}
@@ -17,25 +19,19 @@ use Rattle.plain_model.specs.Laws.{TakenAreChains}
 
 -- a test found no fault, so it passed, and those after it found none
 passed : {A : Type 0} (test : Bool) (fault : A) (tests : List (Option A)) → first_of (then_some (not test) fault ∷ tests) ≡ None → (test ≡ true) × (first_of tests ≡ None)
-passed true fault tests none = search rules
-passed false fault tests none = absurd (cc)
+passed o fault tests none = grind (arith, common_steps)
 
 abbrev or_rest : {A B : Type 0} → (A → B) → Option B → Option A → Option B
 or_rest f rest None = rest
 or_rest f rest (Some a) = Some (f a)
 
 none_of : {A B : Type 0} (f : A → B) (rest : Option B) (o : Option A) → or_rest f rest o ≡ None → (o ≡ None) × (rest ≡ None)
-none_of f rest None none = search rules
-none_of f rest (Some a) none = absurd (cc)
+none_of f rest o none = grind (arith, common_steps)
 
 -- ---- one file
 
 first_is_full : (state : BackupState) → first_fault state ≡ None → (p : Point) × (state ≡ Sealed Whole p)
-first_is_full Blank none = absurd (cc)
-first_is_full Begun none = absurd (cc)
-first_is_full (Sealed Whole p) none = (p, refl)
-first_is_full (Sealed (Since a) p) none = absurd (cc)
-first_is_full (Sealed Loose p) none = absurd (cc)
+first_is_full o none = grind (arith, common_steps)
 
 -- what a file that is taken goes on from
 pub record GoesOn (link : Link) (b : Backup) (state : BackupState) : Type 0 where
@@ -67,7 +63,7 @@ follow_taken k link [] end follow = refl
 follow_taken k link (b ∷ backups) end follow = search (rules, follow_taken (k + 1) (record link { point = follow.0 }) backups end follow.4)
 
 taken_follow : (k : ℕ) (link : Link) (backups : List Backup) → refused_from k link (map Ok backups) ≡ None → (end : Point) × Follow link.id link.size link.point backups end
-taken_follow k link [] none = search rules
+taken_follow k link [] none = (link.point, refl)
 taken_follow k link (b ∷ backups) none =
     let both = none_of (λ (fault : ChainFault). record { file = k; fault = fault })
     (refused_from (k + 1) (record link { point = point_in link.point b.state }) (map Ok backups)) (later_fault link b b.state) none in

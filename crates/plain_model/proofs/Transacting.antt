@@ -1,4 +1,5 @@
 -- A transaction takes a sound state to a sound state.
+use Rattle.std.proofs.lemmas.Grind.{common_steps}
 use Rattle.std.proofs.Common.{rules}
 use Rattle.std.proofs.Common.{◌≡◌, ◌≢◌, ℕ, length, ◌+◌, ◌≤◌, List, [], ◌∷◌, Bool, false, inl, inr, refl, sym, ap, subst, ◌∙◌, arith}
 use Rattle.std.specs.Prelude.{All, None, Result, Ok, Err, ◌==◌, if◌then◌else◌}
@@ -34,14 +35,12 @@ act_then : (held : List ℕ → Held) (hindrance : Hindrance) (p : Point) (k : �
       | Ok mid ↦ fold_actions held hindrance p (k + 1) actions mid
       | Err refusal ↦ Err (record { action = k; refusal = refusal })
     ]) ≡ Ok next → (mid : Machine) × (r ≡ Ok mid) × (fold_actions held hindrance p (k + 1) actions mid ≡ Ok next)
-act_then held hindrance p k actions next (Ok mid) e = search rules
-act_then held hindrance p k actions next (Err refusal) e = absurd (cc)
+act_then held hindrance p k actions next o e = grind (arith, common_steps)
 
 fold_then : (p : Point) (next : Machine) (r : Result Machine RefusedAt)
     → (elim r as (λ (x : Result Machine RefusedAt). Result Machine RefusedAt) [ Ok last ↦ Ok (with_point p last) | Err refused ↦ Err refused ]) ≡ Ok next
     → (last : Machine) × (r ≡ Ok last) × (next ≡ with_point p last)
-fold_then p next (Ok last) e = search rules
-fold_then p next (Err refused) e = absurd (cc)
+fold_then p next o e = grind (arith, common_steps)
 
 -- where the test isn't met, the rest is the answer
 past_error : {A E : Type 0} (test : Bool) (error : E) (rest : Result A E) (next : A) → (if test then Err error else rest) ≡ Ok next → (test ≡ false) × (rest ≡ Ok next)

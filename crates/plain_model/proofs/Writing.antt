@@ -75,7 +75,7 @@ module _ (h : History) (e : Extent) (bytes : List ℕ) (long : length bytes ≡ 
   written = with_entry h (Wrote e.at bytes)
 
   written_timeline : timeline_of written ≡ with_write (timeline_of h) e
-  written_timeline = grind (arith, common_steps)
+  written_timeline = timeline-wrote h e.at bytes ∙ ap (λ (n : ℕ). with_write (timeline_of h) (record { at = e.at; size = n })) long
 
   -- ---- jobs
 
