@@ -1,6 +1,6 @@
 -- What an action leaves as it was, and actions one after another.
 use Rattle.std.proofs.Common.{rules}
-use Rattle.std.proofs.Common.{◌≡◌, refl, sym, subst, ◌∙◌}
+use Rattle.std.proofs.Common.{◌≡◌, sym, subst}
 use Rattle.plain_model.specs.History.{History}
 use Rattle.plain_model.specs.Machine.{Machine}
 use Rattle.plain_model.specs.Sound.{IsSoundFor}

@@ -2,9 +2,8 @@
 use Rattle.std.proofs.Common.{arith}
 use Rattle.std.proofs.lemmas.Grind.{common_steps}
 use Rattle.std.proofs.Common.{rules}
-use Rattle.std.proofs.Common.{◌≡◌, ℕ, List, [], ◌∷◌, ◌++◌, Bool, false, not, inl, inr, refl, sym, ap, subst, ◌∙◌}
+use Rattle.std.proofs.Common.{◌≡◌, ℕ, List, [], ◌∷◌, ◌++◌, Bool, false, not, refl, sym, ap, subst, ◌∙◌}
 use Rattle.std.specs.Prelude.{Option, Some, None, Result, Ok, Err, filter}
-use Rattle.std.proofs.lemmas.Bool.{cases_Bool, cond-true, cond-false}
 use Rattle.span_algebra.specs.declared.points.Point.{Point}
 use Rattle.span_algebra.specs.Timelines.{Timeline, with_point, IsRising}
 use Rattle.bitmap_model.specs.Granules.{IsAllowed}
@@ -14,8 +13,6 @@ use Rattle.bitmap_model.proofs.Lists.{named_all}
 use Rattle.bitmap_model.proofs.Faults.{IsUsable, IsAddable, added_ok, removed_ok, changed_ok, merging_ok}
 use Rattle.core_events.specs.declared.commands.SourceName.{SourceName}
 use Rattle.core_events.specs.declared.refusals.Refusal.{Refusal}
-use Rattle.core_events.specs.declared.refusals.Refusal.TheVariants.{NodeUnknown}
-use Rattle.script_model.specs.Recording.{is_drive}
 use Rattle.plain_model.specs.History.{History, timeline_of}
 use Rattle.plain_model.specs.Machine.{Machine, size_of}
 use Rattle.plain_model.specs.Actions.{bitmap_refusal, with_bitmaps, on_drive, source_refusal, merge_sources}

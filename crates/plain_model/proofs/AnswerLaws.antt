@@ -1,38 +1,30 @@
 -- What denials, refusals, transactions and a break of the source leave.
 use Rattle.std.proofs.lemmas.Grind.{common_steps}
 use Rattle.std.proofs.Common.{rules}
-use Rattle.std.proofs.Common.{◌≡◌, ◌≢◌, ℕ, suc, ◌+◌, ◌<◌, Bool, true, false, refl, ap, ◌∙◌, arith, List, [], ◌∷◌, length}
-use Rattle.std.specs.Prelude.{Option, Some, None, is_some, option_and_then, Result, Ok, Err, filter, ◌==◌}
-use Rattle.std.proofs.lemmas.Bool.{cond_both, cond-false, ne_eqb}
+use Rattle.std.proofs.Common.{◌≡◌, ◌≢◌, ℕ, ◌+◌, ◌<◌, Bool, true, false, refl, ap, ◌∙◌, arith, List, [], ◌∷◌, length}
+use Rattle.std.specs.Prelude.{Option, Some, None, is_some, Result, Ok, Err, filter}
+use Rattle.std.proofs.lemmas.Bool.{cond_both}
 use Rattle.span_algebra.specs.declared.points.Point.{Point}
 use Rattle.span_algebra.specs.Timelines.{Extent}
-use Rattle.bitmap_model.specs.Bitmap.{BitmapState, when_cleared, when_enabled, when_disabled}
-use Rattle.bitmap_model.specs.Bitmaps.{BitmapFault, named, after_remove, after_change, after_merging}
-use Rattle.core_events.specs.Events.{Request, Event, Guest, Monitor, Tick}
-use Rattle.core_events.specs.declared.commands.SyncKind.{SyncKind}
-use Rattle.core_events.specs.declared.commands.SyncKind.TheVariants.{Full, Incremental, Bitmap, Nothing}
+use Rattle.core_events.specs.Events.{Request, Event, Guest, Monitor}
 use Rattle.core_events.specs.declared.commands.SourceName.{SourceName}
-use Rattle.core_events.specs.declared.commands.BackupArgs.{BackupArgs}
 use Rattle.core_events.specs.declared.commands.Action.{Action}
-use Rattle.core_events.specs.declared.commands.Action.TheVariants.{Add, Remove, Clear, Enable, Disable, Merge, Backup, Abort}
-use Rattle.core_events.specs.declared.commands.ExportArgs.{ExportArgs}
 use Rattle.core_events.specs.declared.commands.Command.{Command}
-use Rattle.core_events.specs.declared.commands.Command.TheVariants.{Act, Transaction, JobCancel, QueryJobs, QueryNodes, ExportAdd, Quit}
+use Rattle.core_events.specs.declared.commands.Command.TheVariants.{Transaction}
 use Rattle.core_events.specs.declared.answers.Errno.{Errno}
 use Rattle.core_events.specs.declared.answers.Errno.TheVariants.{Io}
 use Rattle.core_events.specs.declared.answers.JobFault.{JobFault}
 use Rattle.core_events.specs.declared.answers.JobFault.TheVariants.{Failed}
 use Rattle.core_events.specs.declared.refusals.Refusal.{Refusal}
-use Rattle.core_events.specs.declared.refusals.Refusal.TheVariants.{NodeUnknown, JobUnknown, OutOfMemory, SerialSpent}
-use Rattle.core_events.specs.Answers.{Reply, Done, Fault, Jobs, Nodes, Refused}
+use Rattle.core_events.specs.declared.refusals.Refusal.TheVariants.{NodeUnknown, JobUnknown, OutOfMemory}
+use Rattle.core_events.specs.Answers.{Reply, Done, Fault, Refused}
 use Rattle.script_model.specs.Recording.{is_drive}
-use Rattle.plain_model.specs.Jobs.{Job, Tried, copies, next_unit}
+use Rattle.plain_model.specs.Jobs.{Job, next_unit}
 use Rattle.plain_model.specs.Machine.{Machine, size_of, last_number, next_point, runners, job_of}
 use Rattle.plain_model.specs.Requests.{granted, is_write, range_of}
 use Rattle.plain_model.specs.Ending.{leave, given_back, after_break, cancellation}
-use Rattle.plain_model.specs.Actions.{Held, Absent, Faulty, Target, Hindrance, bitmap_refusal, with_bitmaps, on_drive, unusable, source_refusal, merge_sources, after_merge, backup_refusal, new_job, with_job, freeze_bitmap, started_on, granularity_for, RefusedAt, is_at, act, fold_actions, with_point, transact}
-use Rattle.plain_model.specs.Queries.{job_infos, node_infos, export_refusal, with_export}
-use Rattle.plain_model.specs.Outcome.{Trouble, Outcome, answered, with_reply, Fate, Denied, Lost, Carried, CarriedInPart, fate, after_copying, after_marking, after_writing, bytes_of, by_fate, breaks_by, or_break, guest, is_this, after_try, after_seal, tick_of, tick, refused, number_in, after_transaction, after_cancel, unless_wanting, after_export, command, numbered, outcome}
+use Rattle.plain_model.specs.Actions.{Held, Hindrance, on_drive, merge_sources, RefusedAt, act, fold_actions, with_point, transact}
+use Rattle.plain_model.specs.Outcome.{Trouble, Outcome, answered, with_reply, Fate, Denied, Lost, Carried, CarriedInPart, fate, after_copying, after_marking, after_writing, bytes_of, by_fate, breaks_by, or_break, guest, is_this, after_try, after_seal, tick_of, tick, refused, number_in, after_transaction, after_cancel, unless_wanting, command, numbered, outcome}
 use Rattle.plain_model.specs.Laws.{IsUnmoved, DrawsAPoint, AnswersIo}
 use Rattle.plain_model.proofs.Memory.{acted, with_drawn}
 use Rattle.plain_model.proofs.Quiet.{served_by}

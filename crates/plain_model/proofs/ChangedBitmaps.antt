@@ -1,7 +1,7 @@
 -- Changes of one bitmap at the last point keep the bitmaps sound.
 use Rattle.std.proofs.Common.{rules}
 use Rattle.std.proofs.Common.{◌≡◌, ℕ, ◌<◌, ◌≤◌, List, [], ◌∷◌, ◌++◌, length, Bool, true, false, not, refl, sym, ap, subst, ◌∙◌, arith}
-use Rattle.std.specs.Prelude.{IsTrue, Some, filter, count_by}
+use Rattle.std.specs.Prelude.{Some, filter, count_by}
 use Rattle.std.specs.List.{list_any}
 use Rattle.std.proofs.lemmas.List.{length-append}
 use Rattle.std.proofs.lemmas.List.Elements.{All-push}
@@ -9,7 +9,6 @@ use Rattle.std.proofs.lemmas.List.Sums.{length-filter, count_by-le-length}
 use Rattle.std.proofs.lemmas.Bool.{cond_both, both_ways}
 use Rattle.span_algebra.specs.declared.points.Point.{Point}
 use Rattle.span_algebra.specs.Timelines.{Timeline, with_point, IsRising}
-use Rattle.span_algebra.specs.Spans.{after_enable, after_disable}
 use Rattle.bitmap_model.specs.Granules.{IsAllowed}
 use Rattle.bitmap_model.specs.Bitmap.{BitmapState, is_busy, new_bitmap, when_cleared, when_enabled, when_disabled, when_merged}
 use Rattle.bitmap_model.specs.Bitmaps.{named, is_named, is_name, changed, most_bitmaps}

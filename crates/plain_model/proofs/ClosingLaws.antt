@@ -1,14 +1,11 @@
 -- What a closing stores is what the next opening restores, and it is true.
 use Rattle.std.proofs.lemmas.Grind.{common_steps}
 use Rattle.std.proofs.Common.{rules}
-use Rattle.std.proofs.Common.{◌≡◌, List, [], ◌∷◌, map, true, false, inl, inr, refl, sym, ap, subst, ◌∙◌, arith}
-use Rattle.std.specs.Prelude.{All, IsTrue, Option, Some, None, is_some, filter, not}
+use Rattle.std.proofs.Common.{◌≡◌, List, [], ◌∷◌, map, true, false, refl, ap, subst, ◌∙◌, arith}
+use Rattle.std.specs.Prelude.{All, IsTrue, Option, None, is_some, filter, not}
 use Rattle.std.proofs.lemmas.List.Elements.{All-map, All-filter, All-weaker, filter_passes}
 use Rattle.std.proofs.lemmas.List.Folds.{map_fixed}
-use Rattle.std.proofs.lemmas.Bool.{cases_Bool, cond-true, both_ways}
-use Rattle.bitmap_model.specs.Bitmap.{BitmapState, is_busy, stored, restored, IsTrueBitmap}
-use Rattle.bitmap_model.specs.BitmapLaws.{IsRecordedToNow}
-use Rattle.bitmap_model.proofs.Stored.{stored_is_restored}
+use Rattle.bitmap_model.specs.Bitmap.{BitmapState, stored, restored}
 use Rattle.plain_model.specs.History.{History, timeline_of}
 use Rattle.plain_model.specs.Jobs.{Job}
 use Rattle.plain_model.specs.Machine.{Machine}
@@ -17,7 +14,6 @@ use Rattle.plain_model.specs.Closing.{lasting}
 use Rattle.plain_model.specs.Lawful.{IsTrueEntry}
 use Rattle.plain_model.specs.Laws.{StoresLasting}
 use Rattle.plain_model.specs.Sound.{IsSoundBitmap, IsUsedOnce, IsSound}
-use Rattle.plain_model.proofs.Counting.{one_if}
 use Rattle.plain_model.proofs.Leaving.{closed_is_sound}
 
 -- ---- one bitmap

@@ -1,29 +1,25 @@
 -- Each command takes a sound state to a sound state.
 use Rattle.std.proofs.lemmas.Grind.{common_steps}
 use Rattle.std.proofs.Common.{rules}
-use Rattle.std.proofs.Common.{◌≡◌, ℕ, ◌<◌, List, [], ◌∷◌, ◌++◌, length, true, false, not, ◌&&◌, inl, inr, refl, arith}
-use Rattle.std.specs.Prelude.{IsTrue, Option, Some, None, Result, Ok, Err, is_none, nat_le, bytes_eq}
+use Rattle.std.proofs.Common.{◌≡◌, ℕ, ◌<◌, List, [], ◌∷◌, ◌++◌, length, false, refl, arith}
+use Rattle.std.specs.Prelude.{IsTrue, Option, None, Result, Ok, Err}
 use Rattle.std.specs.List.{list_any}
-use Rattle.std.specs.Bool.{then_some}
 use Rattle.std.proofs.lemmas.List.{length-append}
 use Rattle.std.proofs.lemmas.List.Elements.{All-push}
-use Rattle.std.proofs.lemmas.Bool.{both_ways, and_cases, leb-false, not-false}
 use Rattle.bitmap_model.proofs.Lists.{same_bytes-back}
 use Rattle.core_events.specs.declared.commands.ExportArgs.{ExportArgs}
 use Rattle.core_events.specs.declared.commands.Command.{Command}
 use Rattle.core_events.specs.declared.commands.Command.TheVariants.{Act, Transaction, JobCancel, QueryJobs, QueryNodes, ExportAdd, Quit}
 use Rattle.core_events.specs.declared.refusals.Refusal.{Refusal}
-use Rattle.core_events.specs.declared.refusals.Refusal.TheVariants.{NodeUnknown, ReadOnlyNode, ExportTaken, TooManyExports}
-use Rattle.core_events.specs.Answers.{Done, Jobs, Nodes}
+use Rattle.core_events.specs.Answers.{Jobs, Nodes}
 use Rattle.script_model.specs.Recording.{is_drive}
-use Rattle.plain_model.specs.Machine.{Machine, size_of, live_view}
+use Rattle.plain_model.specs.Machine.{Machine, size_of}
 use Rattle.plain_model.specs.Laws.{IsFit}
-use Rattle.plain_model.specs.Actions.{Held, Hindrance, RefusedAt, transact}
-use Rattle.plain_model.specs.Queries.{most_exports, job_infos, node_infos, export_tests, export_refusal, with_export}
-use Rattle.plain_model.specs.Outcome.{Outcome, answered, after_transaction, after_cancel, unless_wanting, after_export, number_in, command}
+use Rattle.plain_model.specs.Actions.{Held, Hindrance, RefusedAt}
+use Rattle.plain_model.specs.Queries.{most_exports, job_infos, node_infos, export_refusal, with_export}
+use Rattle.plain_model.specs.Outcome.{Outcome, answered, after_transaction, unless_wanting, after_export, command}
 use Rattle.plain_model.specs.Sound.{have_one_export_id, have_one_export_name, AreSoundExports, IsSound}
 use Rattle.plain_model.proofs.Inserting.{differ_push}
-use Rattle.plain_model.proofs.Startable.{AllNone, first_none}
 use Rattle.plain_model.proofs.Transacting.{IsTransacted, transact_sound}
 use Rattle.plain_model.proofs.Leaving.{after_cancel_is_sound}
 use Rattle.plain_model.proofs.Sizes.{after_cancel_size}

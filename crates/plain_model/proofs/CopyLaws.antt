@@ -4,18 +4,13 @@ use Rattle.std.proofs.Common.{rules}
 use Rattle.std.proofs.Common.{◌≡◌, ℕ, ◌/◌, ◌<◌, Bool, false, inl, inr, refl, sym, ◌∙◌, arith, List, ◌++◌, length}
 use Rattle.std.specs.Prelude.{None, IsTrue, Contains, if◌then◌else◌, slice_index}
 use Rattle.std.proofs.lemmas.List.{ext_get_or}
-use Rattle.std.proofs.lemmas.List.Elements.{All-contains, All-weaker, Contains-append_left}
-use Rattle.std.proofs.lemmas.Bool.{both_ways, cases_Bool, cond_both, cond-false, false_from_ne_true}
-use Rattle.span_algebra.specs.declared.points.End.TheVariants.{At}
+use Rattle.std.proofs.lemmas.List.Elements.{All-contains, Contains-append_left}
+use Rattle.std.proofs.lemmas.Bool.{both_ways, cases_Bool, false_from_ne_true}
 use Rattle.span_algebra.specs.declared.spans.Base.{Base}
-use Rattle.span_algebra.specs.declared.spans.Base.TheVariants.{Whole, Since, Loose}
-use Rattle.span_algebra.specs.Timelines.{touched}
-use Rattle.span_algebra.specs.Spans.{that_pass, AllBytes}
-use Rattle.span_algebra.proofs.Growth.{wider}
 use Rattle.bitmap_model.specs.Granules.{is_in}
 use Rattle.bitmap_model.specs.Copies.{IsPart, CopyTruth}
 use Rattle.bitmap_model.proofs.Copies.{none_missing}
-use Rattle.plain_model.specs.History.{History, timeline_of}
+use Rattle.plain_model.specs.History.{History}
 use Rattle.plain_model.specs.Jobs.{Job, unit_of, next_unit}
 use Rattle.plain_model.specs.Machine.{Machine, size_of}
 use Rattle.plain_model.specs.Records.{Backup, is_present, BaseHolds}

@@ -1,7 +1,7 @@
 -- Jobs and views copy what a write will change: the state stays sound, and no unit that is missing meets the range any more.
 use Rattle.std.proofs.lemmas.Grind.{common_steps}
 use Rattle.std.proofs.Common.{rules}
-use Rattle.std.proofs.Common.{◌≡◌, ℕ, ◌<◌, ◌&&◌, List, [], ◌∷◌, Bool, true, false, not, Option, Some, None, is_some, IsTrue, All, Contains, filter, map, length, get_or, bytes_eq, refl, sym, ap, subst, ◌∙◌, inl, inr, arith}
+use Rattle.std.proofs.Common.{◌≡◌, ℕ, ◌<◌, ◌&&◌, List, [], ◌∷◌, Bool, true, false, not, Option, None, is_some, IsTrue, All, Contains, filter, map, length, get_or, bytes_eq, refl, sym, ap, subst, ◌∙◌, inl, inr, arith}
 use Rattle.std.specs.List.{list_any, range_with_len}
 use Rattle.std.proofs.lemmas.Bool.{cases_Bool, both_ways, and_parts, and_cases, and_from, not-true}
 use Rattle.std.proofs.lemmas.List.{map-append}
@@ -17,7 +17,7 @@ use Rattle.bitmap_model.proofs.Lists.{same_bytes-itself}
 use Rattle.plain_model.specs.History.{History}
 use Rattle.plain_model.specs.Jobs.{Job, Tried, unit_of, has_id, units_before}
 use Rattle.plain_model.specs.Machine.{Machine, size_of, runners}
-use Rattle.plain_model.specs.Ending.{given_back, leave}
+use Rattle.plain_model.specs.Ending.{leave}
 use Rattle.plain_model.specs.Outcome.{Trouble, tried_before, has_stopped, after_copying}
 use Rattle.plain_model.specs.Sound.{IsSoundJob, IsSoundFor}
 use Rattle.plain_model.proofs.Counting.{none_passes}

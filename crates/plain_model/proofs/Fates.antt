@@ -2,19 +2,12 @@
 use Rattle.std.proofs.Common.{rules}
 use Rattle.std.proofs.Common.{arith}
 use Rattle.std.proofs.lemmas.Grind.{common_steps}
-use Rattle.std.proofs.Common.{◌≡◌, ℕ, ◌+◌, ◌≤◌, List, [], ◌∷◌, Bool, true, false, ◌&&◌, ◌||◌, Option, Some, None, is_some, length, cond, refl, sym, ap, ◌∙◌, ltb-false}
-use Rattle.std.specs.Bool.{then_some}
-use Rattle.std.proofs.lemmas.Bool.{both_ways, or_parts, cond_both}
-use Rattle.std.proofs.lemmas.List.{length-replicate}
+use Rattle.std.proofs.Common.{◌≡◌, ℕ, ◌+◌, ◌≤◌, List, Bool, true, false, None, length}
 use Rattle.core_events.specs.Events.{Request}
 use Rattle.core_events.specs.declared.events.Work.{Work}
-use Rattle.core_events.specs.declared.events.Work.TheVariants.{Read, Write, Zero, Flush, Status}
-use Rattle.core_events.specs.declared.answers.Errno.{Errno}
-use Rattle.core_events.specs.declared.answers.Errno.TheVariants.{Perm, Io, Invalid, NoSpace, Shutdown}
 use Rattle.plain_model.specs.Machine.{Machine, size_of}
-use Rattle.plain_model.specs.Requests.{Place, HasBytes, is_write, is_read_only, is_nowhere, is_gone, is_drive_place, is_invalid, is_too_long, leaves_disk, longest, place_of, lacks_room, denial}
-use Rattle.plain_model.specs.Outcome.{RequestEnd, Well, Untouched, Torn, Trouble, Fate, Denied, Lost, Carried, CarriedInPart, fate_by, fate, bytes_of}
-use Rattle.plain_model.proofs.Startable.{AllNone, first_none}
+use Rattle.plain_model.specs.Requests.{HasBytes, is_write, is_invalid, denial}
+use Rattle.plain_model.specs.Outcome.{RequestEnd, Trouble, Fate, Denied, Lost, Carried, CarriedInPart, fate_by, fate, bytes_of}
 use Rattle.plain_model.specs.Step.{IsLeft}
 
 -- ---- valid requests

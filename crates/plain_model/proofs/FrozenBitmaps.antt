@@ -1,7 +1,7 @@
 -- A job that starts takes its bitmap into use.
 use Rattle.std.proofs.lemmas.Grind.{common_steps}
 use Rattle.std.proofs.Common.{◌≡◌, ℕ, ◌+◌, ◌≤◌, List, [], ◌∷◌, ◌++◌, true, false, refl, sym, ap, subst, ◌∙◌, arith}
-use Rattle.std.specs.Prelude.{Option, Some, None, count_by, if◌then◌else◌, bytes_eq}
+use Rattle.std.specs.Prelude.{Option, Some, count_by, if◌then◌else◌, bytes_eq}
 use Rattle.std.proofs.lemmas.List.Elements.{All-map, All-push, All-weaker}
 use Rattle.std.proofs.lemmas.Bool.{both_ways, cond_both, cond-false, cond-true}
 use Rattle.span_algebra.specs.declared.points.Point.{Point}
@@ -17,7 +17,7 @@ use Rattle.bitmap_model.proofs.TrueSpans.{frozen_keeps_true}
 use Rattle.bitmap_model.proofs.Recorded.{frozen_keeps_recorded}
 use Rattle.plain_model.specs.History.{History, timeline_of}
 use Rattle.plain_model.specs.Jobs.{Job}
-use Rattle.plain_model.specs.Sound.{IsSoundBitmap, uses, is_own, IsUsedOnce, SuccessorHolds, HasItsBitmap, AreUsers}
+use Rattle.plain_model.specs.Sound.{IsSoundBitmap, uses, is_own, IsUsedOnce, SuccessorHolds, HasItsBitmap}
 use Rattle.plain_model.proofs.Counting.{one_if, count-push}
 use Rattle.plain_model.proofs.Users.{others_kept, idle_unused}
 use Rattle.plain_model.proofs.ChangedBitmaps.{AreKept}

@@ -1,14 +1,14 @@
 -- What becomes of the bitmaps of jobs that leave.
 use Rattle.std.proofs.Common.{rules}
 use Rattle.std.proofs.lemmas.Grind.{common_steps}
-use Rattle.std.proofs.Common.{◌≡◌, ◌+◌, List, [], ◌∷◌, ◌++◌, Bool, true, false, not, Option, Some, None, is_some, IsTrue, All, filter, count_by, get_or, bytes_eq, refl, sym, ap, subst, ◌∙◌, inl, inr, arith, ℕ}
-use Rattle.std.proofs.lemmas.Bool.{cases_Bool, both_ways, cond-true, cond-false, cond_both}
+use Rattle.std.proofs.Common.{◌≡◌, List, [], ◌∷◌, ◌++◌, Bool, true, false, not, Option, Some, None, IsTrue, All, filter, count_by, get_or, bytes_eq, refl, sym, ap, subst, ◌∙◌, arith, ℕ}
+use Rattle.std.proofs.lemmas.Bool.{both_ways, cond-false, cond_both}
 use Rattle.std.proofs.lemmas.List.Elements.{All-head, All-tail, All-map, All-weaker, All-append, All-filter}
 use Rattle.span_algebra.specs.declared.points.Point.{Point}
 use Rattle.span_algebra.specs.Timelines.{stands}
 use Rattle.bitmap_model.specs.Bitmap.{BitmapState, is_busy, when_abdicated, when_reclaimed}
 use Rattle.bitmap_model.specs.BitmapLaws.{IsBlank}
-use Rattle.bitmap_model.specs.Bitmaps.{named, is_named, changed}
+use Rattle.bitmap_model.specs.Bitmaps.{named, changed}
 use Rattle.bitmap_model.proofs.Lists.{same_bytes, same_bytes-itself, same_bytes-back, named_name, named_all, changed_all_at, changed_apart, changed_length, changed_other, change_if}
 use Rattle.bitmap_model.proofs.Recorded.{abdicated_keeps_recorded, reclaimed_keeps_recorded}
 use Rattle.bitmap_model.proofs.Shapes.{abdicated_keeps_shape, reclaimed_keeps_shape}
@@ -19,7 +19,7 @@ use Rattle.plain_model.specs.History.{History, timeline_of}
 use Rattle.plain_model.specs.Jobs.{Job}
 use Rattle.plain_model.specs.Ending.{given_back, by_mode, completed, change_own, change_bitmaps}
 use Rattle.plain_model.specs.Sound.{IsSoundBitmap, AreSoundBitmaps, is_own, uses, IsUsedOnce, SuccessorHolds, HasItsBitmap, AreUsers}
-use Rattle.plain_model.proofs.Counting.{one_if, count-cons, none_counted}
+use Rattle.plain_model.proofs.Counting.{none_counted}
 use Rattle.plain_model.proofs.Filters.{count_parted}
 
 -- ---- what a change at the end of a job has to keep

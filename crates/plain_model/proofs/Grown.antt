@@ -1,25 +1,18 @@
 -- Jobs that have copied more.
 use Rattle.std.proofs.Common.{rules}
-use Rattle.std.proofs.Common.{◌≡◌, ℕ, ◌/◌, List, [], ◌∷◌, Bool, true, false, Option, Some, None, IsTrue, All, length, cond, refl, sym, ap, subst, ◌∙◌, inl, inr, arith}
-use Rattle.std.specs.Prelude.{nat_lt}
-use Rattle.std.proofs.lemmas.Bool.{cases_Bool, both_ways, cond_both}
+use Rattle.std.proofs.Common.{◌≡◌, ℕ, List, [], ◌∷◌, Bool, true, Option, Some, None, IsTrue, All, length, refl, sym, ap, ◌∙◌, arith}
 use Rattle.std.proofs.lemmas.List.{length-set}
 use Rattle.std.proofs.lemmas.List.Elements.{All-nil, All-cons, All-head, All-tail}
 use Rattle.std.proofs.lemmas.Option.{none-some}
-use Rattle.span_algebra.specs.declared.points.End.TheVariants.{At}
-use Rattle.span_algebra.specs.declared.spans.Base.{Base}
-use Rattle.span_algebra.specs.declared.spans.Base.TheVariants.{Whole, Since, Loose}
-use Rattle.span_algebra.specs.Spans.{that_pass, AllTouched}
-use Rattle.bitmap_model.specs.Granules.{granules_in, is_in}
+use Rattle.bitmap_model.specs.Granules.{is_in}
 use Rattle.bitmap_model.specs.Copies.{is_missing, IsPart}
 use Rattle.bitmap_model.proofs.Sets.{in_length}
-use Rattle.bitmap_model.proofs.Copies.{missing_from, missing_parts, set_has, set_has_own, set_is_part}
+use Rattle.bitmap_model.proofs.Copies.{set_has, set_has_own, set_is_part}
 use Rattle.core_events.specs.declared.answers.JobFault.{JobFault}
-use Rattle.core_events.specs.declared.answers.JobFault.TheVariants.{Failed, NoRoom}
-use Rattle.plain_model.specs.History.{History, timeline_of}
-use Rattle.plain_model.specs.Space.{Store, IsShapedStore, need}
-use Rattle.plain_model.specs.Jobs.{Job, Tried, unit_of, unit_extent, with_copied, is_number, copies}
-use Rattle.plain_model.specs.Sound.{ScopeHolds, IsSoundJob}
+use Rattle.plain_model.specs.History.{History}
+use Rattle.plain_model.specs.Space.{Store, IsShapedStore}
+use Rattle.plain_model.specs.Jobs.{Job, Tried, unit_of, with_copied, copies}
+use Rattle.plain_model.specs.Sound.{IsSoundJob}
 use Rattle.plain_model.proofs.Stores.{written_is_shaped, written_cluster}
 
 -- the job with these units copied, and its target's store as it is then

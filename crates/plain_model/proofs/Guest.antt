@@ -1,16 +1,15 @@
 -- A guest request keeps a state sound.
 use Rattle.std.proofs.Common.{rules}
-use Rattle.std.proofs.Common.{◌≡◌, ℕ, ◌+◌, ◌≤◌, List, Bool, All, length, map, refl, ◌∙◌, arith}
+use Rattle.std.proofs.Common.{◌≡◌, ℕ, ◌+◌, ◌≤◌, List, Bool, All, length, refl, ◌∙◌}
 use Rattle.std.proofs.lemmas.Bool.{cond_both}
 use Rattle.span_algebra.specs.Timelines.{Extent}
 use Rattle.core_events.specs.Events.{Request}
 use Rattle.core_events.specs.declared.answers.Errno.TheVariants.{Io}
 use Rattle.core_events.specs.Answers.{Reply, Done, Fault}
-use Rattle.plain_model.specs.Jobs.{Job}
 use Rattle.plain_model.specs.Machine.{Machine, size_of, runners}
 use Rattle.plain_model.specs.Requests.{HasBytes, is_write, range_of, granted}
-use Rattle.plain_model.specs.Ending.{Noted, given_back, leave, after_break}
-use Rattle.plain_model.specs.Outcome.{Trouble, Outcome, answered, with_reply, tried_before, has_stopped, after_copying, after_writing, Fate, Denied, Lost, Carried, CarriedInPart, bytes_of, fate, by_fate, breaks_by, or_break, guest}
+use Rattle.plain_model.specs.Ending.{leave}
+use Rattle.plain_model.specs.Outcome.{Trouble, Outcome, answered, after_copying, after_writing, Fate, Denied, Lost, Carried, CarriedInPart, bytes_of, fate, by_fate, or_break, guest}
 use Rattle.plain_model.specs.Step.{IsLeft}
 use Rattle.plain_model.specs.Sound.{AreNumbers, IsSound}
 use Rattle.plain_model.proofs.Leaving.{leaving_numbers, after_break_is_sound}

@@ -1,8 +1,7 @@
 -- The disk that a history leads to.
 use Rattle.std.proofs.Common.{arith}
 use Rattle.std.proofs.lemmas.Grind.{common_steps}
-use Rattle.std.proofs.Common.{rules}
-use Rattle.std.proofs.Common.{◌≡◌, ℕ, List, [], ◌∷◌, ◌++◌, length, map, refl, sym, subst, ◌∙◌}
+use Rattle.std.proofs.Common.{◌≡◌, ℕ, List, [], ◌∷◌, ◌++◌, length, map, refl}
 use Rattle.disk_model.specs.Files.{overlay}
 use Rattle.disk_model.proofs.Bytes.{length-overlay_inside}
 use Rattle.span_algebra.specs.Timelines.{LieInside}

@@ -5,7 +5,6 @@ use Rattle.std.specs.List.{list_any}
 use Rattle.std.proofs.lemmas.List.Elements.{All-nil, All-cons, All-head, All-tail, All-map, All-weaker, All-append, All-filter, filter-append}
 use Rattle.std.proofs.lemmas.List.Sums.{length-filter, count_by-le-length}
 use Rattle.std.proofs.lemmas.Map.Views.{any-filter_same}
-use Rattle.std.proofs.lemmas.Option.{same_Some}
 use Rattle.span_algebra.specs.Timelines.{stands}
 use Rattle.bitmap_model.specs.Bitmap.{BitmapState}
 use Rattle.bitmap_model.proofs.Lists.{same_bytes}

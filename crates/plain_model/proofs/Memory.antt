@@ -2,20 +2,17 @@
 use Rattle.std.proofs.Common.{arith}
 use Rattle.std.proofs.lemmas.Grind.{common_steps}
 use Rattle.std.proofs.Common.{rules}
-use Rattle.std.proofs.Common.{◌≡◌, ℕ, ◌+◌, Bool, true, false, refl, ap, List, [], ◌∷◌}
-use Rattle.std.specs.Prelude.{Option, Some, None, Result, Ok, Err, if◌then◌else◌, ◌==◌}
-use Rattle.std.proofs.lemmas.Bool.{cond_both}
+use Rattle.std.proofs.Common.{◌≡◌, ℕ, ◌+◌, Bool, refl, List, [], ◌∷◌}
+use Rattle.std.specs.Prelude.{Option, None, Result, Ok, Err, if◌then◌else◌}
 use Rattle.span_algebra.specs.declared.points.Point.{Point}
 use Rattle.core_events.specs.declared.commands.Action.{Action}
 use Rattle.core_events.specs.declared.commands.Command.{Command}
 use Rattle.core_events.specs.declared.commands.Command.TheVariants.{Act, Transaction, JobCancel, QueryJobs, QueryNodes, ExportAdd, Quit}
 use Rattle.core_events.specs.declared.refusals.Refusal.{Refusal}
-use Rattle.core_events.specs.declared.refusals.Refusal.TheVariants.{OutOfMemory, SerialSpent}
-use Rattle.core_events.specs.Answers.{Refused, Jobs, Nodes, Done}
-use Rattle.plain_model.specs.Machine.{Machine, last_number, next_point}
-use Rattle.plain_model.specs.Actions.{Held, Hindrance, RefusedAt, is_at, act, fold_actions, with_point, transact}
-use Rattle.plain_model.specs.Queries.{job_infos, node_infos, export_refusal, with_export}
-use Rattle.plain_model.specs.Outcome.{Outcome, answered, number_in, after_transaction, after_cancel, unless_wanting, after_export, command}
+use Rattle.core_events.specs.declared.refusals.Refusal.TheVariants.{OutOfMemory}
+use Rattle.plain_model.specs.Machine.{Machine}
+use Rattle.plain_model.specs.Actions.{Held, Hindrance, RefusedAt, fold_actions, with_point, transact}
+use Rattle.plain_model.specs.Outcome.{Outcome, number_in, after_transaction, command}
 use Rattle.plain_model.specs.Laws.{IsForMemory}
 
 -- the actions behind one that was tried

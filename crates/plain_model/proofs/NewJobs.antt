@@ -2,18 +2,16 @@
 use Rattle.std.proofs.Common.{rules}
 use Rattle.std.proofs.Common.{arith}
 use Rattle.std.proofs.lemmas.Grind.{common_steps}
-use Rattle.std.proofs.Common.{◌≡◌, ℕ, ◌/◌, ◌<◌, List, length, Bool, true, false, refl, sym, ap, subst, ◌∙◌}
+use Rattle.std.proofs.Common.{◌≡◌, ℕ, ◌/◌, ◌<◌, List, length, Bool, true, false, sym, ap, subst, ◌∙◌}
 use Rattle.std.specs.Prelude.{Option, Some, None, slice_index}
 use Rattle.std.proofs.lemmas.List.{length-replicate, get_or-replicate}
 use Rattle.std.proofs.lemmas.List.Elements.{All-weaker}
-use Rattle.std.proofs.lemmas.Bool.{both_ways, cond_both}
+use Rattle.std.proofs.lemmas.Bool.{both_ways}
 use Rattle.span_algebra.specs.declared.points.Point.{Point}
-use Rattle.span_algebra.specs.declared.points.End.TheVariants.{Now, At}
+use Rattle.span_algebra.specs.declared.points.End.TheVariants.{At}
 use Rattle.span_algebra.specs.declared.spans.Span.{Span}
-use Rattle.span_algebra.specs.declared.spans.Span.TheVariants.{Unknown, Known}
 use Rattle.span_algebra.specs.declared.spans.Base.{Base}
 use Rattle.span_algebra.specs.declared.spans.Base.TheVariants.{Whole, Since, Loose}
-use Rattle.span_algebra.specs.Points.{same_point}
 use Rattle.span_algebra.specs.Timelines.{Timeline, with_point, stands, IsRising, touched}
 use Rattle.span_algebra.specs.Spans.{that_pass, AllBytes, AllTouched, SpanHolds, base_of}
 use Rattle.bitmap_model.specs.Granules.{IsAllowed, granules_in, is_in, none_of, merged}

@@ -1,23 +1,19 @@
 -- A session begins in a sound state.
 use Rattle.std.proofs.Common.{rules}
 use Rattle.std.proofs.lemmas.Grind.{common_steps}
-use Rattle.std.proofs.Common.{◌≡◌, ℕ, ◌+◌, ◌≤◌, List, [], ◌∷◌, ◌++◌, length, map, replicate, true, false, inl, inr, refl, sym, ap, subst, arith}
+use Rattle.std.proofs.Common.{◌≡◌, ℕ, ◌+◌, ◌≤◌, List, [], ◌∷◌, ◌++◌, length, map, true, refl, sym, subst, arith}
 use Rattle.std.specs.Prelude.{All, IsTrue}
-use Rattle.std.proofs.lemmas.List.{length-map, length-replicate}
+use Rattle.std.proofs.lemmas.List.{length-map}
 use Rattle.std.proofs.lemmas.List.Elements.{All-nil, All-cons, All-head, All-tail, All-map, All-append}
 use Rattle.std.proofs.lemmas.List.Sorted.{IsPermutation-refl}
-use Rattle.std.proofs.lemmas.Bool.{cases_Bool, both_ways}
 use Rattle.std.proofs.lemmas.Bool.Decides.{nat_tests}
 use Rattle.std.proofs.lemmas.Option.{none-some}
 use Rattle.span_algebra.specs.declared.points.Point.{Point}
 use Rattle.span_algebra.specs.Points.{precedes}
 use Rattle.span_algebra.specs.Timelines.{is_after, Rise}
 use Rattle.span_algebra.specs.Timelines as timelines
-use Rattle.bitmap_model.specs.Bitmap.{StoredBitmap, IsShapedBitmap, IsTrueBitmap, restored}
+use Rattle.bitmap_model.specs.Bitmap.{StoredBitmap, restored}
 use Rattle.bitmap_model.specs.Bitmaps.{most_bitmaps}
-use Rattle.bitmap_model.specs.BitmapLaws.{IsRecordedToNow}
-use Rattle.bitmap_model.proofs.Shapes.{restored_is_shaped}
-use Rattle.bitmap_model.proofs.Stored.{restored-trusted, restored-untrusted}
 use Rattle.core_events.specs.declared.commands.ExportArgs.{ExportArgs}
 use Rattle.script_model.specs.Recording.{is_drive}
 use Rattle.plain_model.specs.History.{History, IsHistory, timeline_of}

@@ -1,7 +1,7 @@
 -- A sound state is sound for its history with the next point too.
 use Rattle.std.proofs.Common.{rules}
 use Rattle.std.proofs.lemmas.Grind.{common_steps}
-use Rattle.std.proofs.Common.{◌≡◌, ℕ, ◌+◌, ◌/◌, List, ◌++◌, true, sym, ap, subst, ◌∙◌, arith}
+use Rattle.std.proofs.Common.{◌≡◌, ℕ, ◌+◌, ◌/◌, List, true, sym, ap, subst, ◌∙◌, arith}
 use Rattle.std.specs.Prelude.{IsTrue, Option, Some, None, slice_index}
 use Rattle.std.proofs.lemmas.List.Elements.{All-weaker}
 use Rattle.std.proofs.lemmas.Bool.Decides.{nat_tests}
@@ -13,7 +13,6 @@ use Rattle.span_algebra.specs.Timelines.{Timeline, with_point, stands, IsRising}
 use Rattle.span_algebra.specs.Spans.{that_pass}
 use Rattle.bitmap_model.specs.Granules.{is_in}
 use Rattle.bitmap_model.specs.Bitmap.{BitmapState, successor_has}
-use Rattle.bitmap_model.specs.Bitmaps.{named}
 use Rattle.bitmap_model.proofs.TrueSpans.{further_point_keeps_true}
 use Rattle.plain_model.specs.History.{History, Entry, Reached, IsHistory, with_entry, timeline_of}
 use Rattle.plain_model.specs.Jobs.{Job, unit_of}

@@ -2,11 +2,10 @@
 use Rattle.std.proofs.Common.{rules}
 use Rattle.std.proofs.Common.{arith}
 use Rattle.std.proofs.lemmas.Grind.{common_steps}
-use Rattle.std.proofs.Common.{◌≡◌, ℕ, true, false, inl, inr, refl, sym, ap, subst, ◌∙◌, List, [], ◌∷◌, ◌++◌, length, map}
-use Rattle.std.specs.Prelude.{All, IsTrue}
+use Rattle.std.proofs.Common.{◌≡◌, ℕ, true, false, refl, sym, ap, subst, List, [], ◌∷◌, ◌++◌, length, map}
+use Rattle.std.specs.Prelude.{IsTrue}
 use Rattle.std.proofs.lemmas.List.{map-append}
-use Rattle.std.proofs.lemmas.List.Elements.{All-cons, All-nil, All-append}
-use Rattle.std.proofs.lemmas.Bool.{both_ways, cases_Bool, cond-true, cond-false, or_parts}
+use Rattle.std.proofs.lemmas.Bool.{both_ways, cond-true}
 use Rattle.disk_model.specs.Files.{overlay}
 use Rattle.span_algebra.specs.declared.points.Point.{Point}
 use Rattle.span_algebra.specs.declared.points.End.TheVariants.{Now, At}
@@ -14,7 +13,7 @@ use Rattle.span_algebra.specs.Points.{same_point}
 use Rattle.span_algebra.specs.Timelines.{Timeline, with_write, with_point, LieInside, has_point, stands, after_point, writes, touched}
 use Rattle.span_algebra.specs.Timelines as timelines
 use Rattle.span_algebra.specs.Spans.{AllBytes, AllTouched}
-use Rattle.span_algebra.proofs.Touched.{has_point-more, past_write, past_other, writes-append, before_point-append, after_point-append, touched-point}
+use Rattle.span_algebra.proofs.Touched.{has_point-more, past_write, writes-append, before_point-append, after_point-append, touched-point}
 use Rattle.span_algebra.proofs.PointOrder.{same_point-itself}
 use Rattle.span_algebra.proofs.LastPoint.{last_stands}
 use Rattle.plain_model.specs.History.{Entry, Wrote, Reached, History, StaysInside, disk_after, now, entries_before, disk_at, with_entry, without_bytes, timeline_of}

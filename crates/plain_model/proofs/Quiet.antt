@@ -1,25 +1,24 @@
 -- Where no count rose and nothing is refused for want of memory, an event is answered as if nothing could go wrong.
 use Rattle.std.proofs.lemmas.Grind.{common_steps}
 use Rattle.std.proofs.Common.{rules}
-use Rattle.std.proofs.Common.{◌≡◌, ℕ, Bool, false, inl, inr, refl, sym, ap, subst, ◌∙◌, arith, List, [], ◌∷◌, ◌++◌, map}
+use Rattle.std.proofs.Common.{◌≡◌, ℕ, Bool, false, refl, sym, ap, subst, ◌∙◌, arith, List, [], ◌∷◌, map}
 use Rattle.std.specs.Prelude.{Option, Some, None, is_some, ◌⊎◌, All, Contains, find, if◌then◌else◌}
-use Rattle.std.proofs.lemmas.List.Elements.{All-nil, All-cons, All-head, All-tail, All-weaker, All-contains, All-contains_itself, Contains-append_left, Contains-append_right}
-use Rattle.std.proofs.lemmas.Bool.{both_ways, cases_Bool, cond_both, cond-true, cond-false, false_from_ne_true}
+use Rattle.std.proofs.lemmas.List.Elements.{All-nil, All-head, All-tail, All-weaker, All-contains, All-contains_itself, Contains-append_left, Contains-append_right}
+use Rattle.std.proofs.lemmas.Bool.{both_ways, false_from_ne_true}
 use Rattle.std.proofs.lemmas.Slice.Eq.{bytes_eq-Decides}
 use Rattle.span_algebra.specs.Timelines.{Extent}
 use Rattle.core_events.specs.Events.{Request, Event, Guest, Monitor, Tick}
 use Rattle.core_events.specs.declared.answers.Errno.{Errno}
-use Rattle.core_events.specs.declared.answers.Errno.TheVariants.{NoSpace}
 use Rattle.core_events.specs.declared.answers.JobFault.TheVariants.{Failed}
-use Rattle.core_events.specs.Answers.{Done, Answer}
-use Rattle.plain_model.specs.Jobs.{Job, Tried, has_id, copies, next_unit}
+use Rattle.core_events.specs.Answers.{Answer}
+use Rattle.plain_model.specs.Jobs.{Job, Tried, copies}
 use Rattle.plain_model.specs.Machine.{Machine, size_of, runners, job_of}
-use Rattle.plain_model.specs.Requests.{Place, Drive, Live, Gone, Nowhere, place_of, denial, lacks_room, granted, is_write, range_of}
+use Rattle.plain_model.specs.Requests.{denial}
 use Rattle.plain_model.specs.Ending.{Noted, leave, given_back, stop_notices}
 use Rattle.plain_model.specs.Actions.{Held, Hindrance}
-use Rattle.plain_model.specs.Outcome.{RequestEnd, Well, Untouched, Torn, Trouble, no_trouble, Outcome, answered, with_reply, Fate, Denied, Lost, Carried, CarriedInPart, fate_by, fate, tried_before, has_stopped, after_copying, after_marking, bytes_of, by_fate, breaks_by, or_break, guest, after_try, after_seal, tick_of, tick, command, numbered, outcome}
-use Rattle.plain_model.specs.Faults.{Rise, HasFailed, IsTiedAt, is_well, IsRequestTied, AreCopiesTied, StepFaults}
-use Rattle.plain_model.specs.Step.{SpaceBy, StepSpace, Step}
+use Rattle.plain_model.specs.Outcome.{RequestEnd, Well, Trouble, no_trouble, Outcome, Fate, Denied, Lost, Carried, CarriedInPart, fate_by, fate, tried_before, has_stopped, after_copying, by_fate, breaks_by, or_break, guest, after_try, after_seal, tick, numbered, outcome}
+use Rattle.plain_model.specs.Faults.{Rise, HasFailed, IsRequestTied, AreCopiesTied, StepFaults}
+use Rattle.plain_model.specs.Step.{StepSpace, Step}
 use Rattle.plain_model.specs.Laws.{IsQuiet, WentWell, IsForMemory}
 use Rattle.plain_model.proofs.Memory.{with_memory, free-command}
 

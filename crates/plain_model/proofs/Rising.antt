@@ -1,7 +1,6 @@
 -- Points that rise, as a timeline or a history goes on.
 use Rattle.std.proofs.Common.{arith}
 use Rattle.std.proofs.lemmas.Grind.{common_steps}
-use Rattle.std.proofs.Common.{rules}
 use Rattle.std.proofs.Common.{◌≡◌, ℕ, ◌+◌, ◌≤◌, true, false, inl, inr, refl, sym, subst, List, [], ◌∷◌, ◌++◌, length, append_assoc}
 use Rattle.std.specs.Prelude.{All, IsTrue}
 use Rattle.std.proofs.lemmas.List.Elements.{All-cons, All-nil, All-append, All-head, All-tail, All-weaker}
@@ -9,7 +8,7 @@ use Rattle.std.proofs.lemmas.Bool.{both_ways, cases_Bool, false_from_ne_true}
 use Rattle.span_algebra.specs.declared.points.Point.{Point}
 use Rattle.span_algebra.specs.Points.{same_point, precedes}
 use Rattle.span_algebra.specs.Timelines.{Extent, Entry, Wrote, Reached, Timeline, with_write, with_point, is_after, Rise, IsRising, has_point, stands}
-use Rattle.span_algebra.proofs.PointOrder.{precedes-itself, precedes-trans, same_point-true}
+use Rattle.span_algebra.proofs.PointOrder.{precedes-itself, same_point-true}
 use Rattle.span_algebra.proofs.Touched.{past_write, past_other}
 use Rattle.span_algebra.proofs.LastPoint.{ArePast, is_before, past}
 use Rattle.plain_model.specs.History as history

@@ -1,16 +1,15 @@
 -- A tick keeps a state sound.
 use Rattle.std.proofs.lemmas.Grind.{common_steps}
 use Rattle.std.proofs.Common.{rules}
-use Rattle.std.proofs.Common.{◌≡◌, ℕ, List, [], ◌∷◌, ◌++◌, append_assoc, length-append, Bool, true, Option, Some, None, is_some, IsTrue, All, IsPermutation, map, count_by, bytes_eq, refl, sym, ap, subst, ◌∙◌, inl, inr, arith}
+use Rattle.std.proofs.Common.{◌≡◌, ℕ, List, [], ◌∷◌, ◌++◌, append_assoc, length-append, Bool, true, Option, Some, None, is_some, IsTrue, All, IsPermutation, map, count_by, bytes_eq, refl, sym, ap, subst, ◌∙◌, arith}
 use Rattle.std.specs.Prelude.{if◌then◌else◌}
 use Rattle.std.specs.List.{list_any}
-use Rattle.std.proofs.lemmas.Bool.{cases_Bool, cond_both}
+use Rattle.std.proofs.lemmas.Bool.{cond_both}
 use Rattle.std.proofs.lemmas.List.Elements.{All-nil, All-cons, All-head, All-tail, All-append, All-push, All-weaker}
 use Rattle.std.proofs.lemmas.List.Sorted.{IsPermutation-map, IsPermutation-middle, IsPermutation-trans}
 use Rattle.bitmap_model.specs.Bitmap.{BitmapState}
 use Rattle.bitmap_model.specs.Granules.{is_in}
 use Rattle.bitmap_model.proofs.Copies.{least_missing, missing_parts}
-use Rattle.bitmap_model.proofs.Lists.{same_bytes, same_bytes-back}
 use Rattle.core_events.specs.declared.answers.JobFault.{JobFault}
 use Rattle.core_events.specs.declared.answers.JobFault.TheVariants.{Failed}
 use Rattle.core_events.specs.Answers.{Done}

@@ -1,12 +1,12 @@
 -- A state in which jobs and views have copied more.
 use Rattle.std.proofs.Common.{rules}
-use Rattle.std.proofs.Common.{◌≡◌, ℕ, List, [], ◌∷◌, ◌++◌, All, IsPermutation, map, length, bytes_eq, refl, sym, ap, subst, ◌∙◌, arith}
+use Rattle.std.proofs.Common.{◌≡◌, ℕ, List, [], ◌∷◌, ◌++◌, All, map, length, bytes_eq, refl, sym, ap, subst, ◌∙◌, arith}
 use Rattle.std.specs.List.{list_any}
 use Rattle.std.proofs.lemmas.List.{map-append, length-map}
 use Rattle.std.proofs.lemmas.List.Elements.{All-map, All-weaker, filter_agree}
 use Rattle.bitmap_model.specs.Bitmap.{BitmapState}
 use Rattle.plain_model.specs.History.{History}
-use Rattle.plain_model.specs.Jobs.{Job, has_id}
+use Rattle.plain_model.specs.Jobs.{Job}
 use Rattle.plain_model.specs.Machine.{Machine}
 use Rattle.plain_model.specs.Sound.{IsSoundJob, IsViewJob, have_one_id, have_one_target, is_on_drive, AreSoundJobs, AreInOrder, uses, IsUsedOnce, HasItsBitmap, AreUsers, IsSoundFor}
 use Rattle.plain_model.proofs.Filters.{count_by-map}

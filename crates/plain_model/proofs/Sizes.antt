@@ -10,11 +10,11 @@ use Rattle.core_events.specs.declared.answers.JobFault.{JobFault}
 use Rattle.core_events.specs.declared.answers.JobFault.TheVariants.{Failed}
 use Rattle.core_events.specs.declared.answers.Errno.TheVariants.{Io}
 use Rattle.core_events.specs.Answers.{Reply, Done, Fault}
-use Rattle.plain_model.specs.Jobs.{Job, Tried, next_unit, copies}
+use Rattle.plain_model.specs.Jobs.{Job, Tried, copies}
 use Rattle.plain_model.specs.Machine.{Machine, size_of, runners, job_of}
 use Rattle.plain_model.specs.Requests.{is_write, range_of, granted}
 use Rattle.plain_model.specs.Ending.{Noted, leave, after_break}
-use Rattle.plain_model.specs.Outcome.{Trouble, Outcome, answered, with_reply, after_copying, after_marking, after_writing, Fate, Denied, Lost, Carried, CarriedInPart, bytes_of, fate, by_fate, breaks_by, or_break, guest, after_try, after_seal, tick_of, tick, after_cancel}
+use Rattle.plain_model.specs.Outcome.{Trouble, Outcome, answered, after_copying, after_marking, after_writing, Fate, Denied, Lost, Carried, CarriedInPart, bytes_of, fate, by_fate, breaks_by, or_break, guest, after_try, after_seal, tick_of, tick, after_cancel}
 use Rattle.plain_model.proofs.Leaving.{cancelled}
 use Rattle.plain_model.proofs.Served.{by_stop, by_unit}
 

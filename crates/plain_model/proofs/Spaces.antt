@@ -1,19 +1,17 @@
 -- The source's space and the numbers of events: what a step does to them keeps a state sound.
 use Rattle.std.proofs.lemmas.Grind.{common_steps}
 use Rattle.std.proofs.Common.{rules}
-use Rattle.std.proofs.Common.{ℕ, ◌+◌, ◌≤◌, true, false, sym, subst, arith}
-use Rattle.std.proofs.lemmas.List.Elements.{All-weaker}
-use Rattle.core_events.specs.Events.{Request, Event, Guest, Monitor, Tick}
+use Rattle.std.proofs.Common.{ℕ, true, false, arith}
+use Rattle.core_events.specs.Events.{Request, Event}
 use Rattle.core_events.specs.declared.events.Work.{Work}
 use Rattle.core_events.specs.declared.events.Work.TheVariants.{Read, Write, Zero, Flush, Status}
-use Rattle.plain_model.specs.History.{History}
 use Rattle.plain_model.specs.Space.{Store, IsShapedStore, Change}
-use Rattle.plain_model.specs.Machine.{Machine, GoneView, size_of, next_number}
+use Rattle.plain_model.specs.Machine.{Machine, size_of}
 use Rattle.plain_model.specs.Requests.{range_of}
-use Rattle.plain_model.specs.Outcome.{Trouble, Fate, Denied, Lost, Carried, CarriedInPart, fate, numbered}
-use Rattle.plain_model.specs.Step.{change_by, no_change, IsChanged, IsChangedInPart, SpaceBy, StepSpace}
-use Rattle.plain_model.specs.Sound.{IsSoundFor, AreNumbers, IsSound}
-use Rattle.plain_model.proofs.Stores.{like_is_shaped, written_is_shaped, zeroed_is_shaped}
+use Rattle.plain_model.specs.Outcome.{Trouble, Fate, Denied, Lost, Carried, CarriedInPart, numbered}
+use Rattle.plain_model.specs.Step.{change_by, no_change, IsChanged, SpaceBy, StepSpace}
+use Rattle.plain_model.specs.Sound.{IsSound}
+use Rattle.plain_model.proofs.Stores.{written_is_shaped, zeroed_is_shaped}
 
 -- ---- the number of an event
 

@@ -2,24 +2,20 @@
 use Rattle.std.proofs.Common.{rules}
 use Rattle.std.proofs.Common.{arith}
 use Rattle.std.proofs.lemmas.Grind.{common_steps}
-use Rattle.std.proofs.Common.{◌≡◌, ℕ, ◌<◌, List, [], ◌∷◌, length, Bool, true, false, not, ◌&&◌, inl, inr, refl, sym, ap, ◌∙◌}
-use Rattle.std.specs.Prelude.{Option, Some, None, is_some, is_none, unwrap_or, option_map, option_and_then, nat_le, ◌==◌, if◌then◌else◌, codes}
+use Rattle.std.proofs.Common.{◌≡◌, ℕ, ◌<◌, List, [], ◌∷◌, length, Bool, false, not, ◌&&◌, refl, sym}
+use Rattle.std.specs.Prelude.{Option, Some, None, is_some, is_none, option_and_then}
 use Rattle.std.specs.List.{list_any}
-use Rattle.std.specs.Bool.{then_some}
-use Rattle.std.proofs.lemmas.Bool.{cases_Bool, cond-true, cond-false, leb-false, eqb-true, or_parts}
 use Rattle.std.proofs.lemmas.Option.{none-some}
 use Rattle.core_events.specs.declared.commands.BackupArgs.{BackupArgs}
-use Rattle.core_events.specs.declared.refusals.Refusal.{Refusal}
-use Rattle.core_events.specs.declared.refusals.Refusal.TheVariants.{NodeUnknown, BitmapNeeded, BitmapForbidden, JobTaken, TooManyJobs, SourceBroken, TargetBusy, DeviceFailed, TargetMissing, TargetFault, TargetUsed, OtherSize}
 use Rattle.bitmap_model.specs.Bitmap.{BitmapState}
-use Rattle.bitmap_model.specs.Bitmaps.{named, use_fault}
-use Rattle.bitmap_model.proofs.Faults.{IsUsable, use_none}
+use Rattle.bitmap_model.specs.Bitmaps.{named}
+use Rattle.bitmap_model.proofs.Faults.{IsUsable}
 use Rattle.script_model.specs.Recording.{is_drive}
 use Rattle.plain_model.specs.Space.{Store}
 use Rattle.plain_model.specs.Jobs.{has_id}
 use Rattle.plain_model.specs.Machine.{Machine, size_of, runners, has_target}
 use Rattle.monitor_model.specs.Commands.{first_of}
-use Rattle.plain_model.specs.Actions.{Held, Absent, Faulty, Target, is_file_name, held_refusal, target_refusal, bitmap_refusal, unusable, uses_bitmap, is_incremental, is_never, most_jobs, is_target_busy, backup_tests, backup_refusal}
+use Rattle.plain_model.specs.Actions.{Held, Target, unusable, uses_bitmap, most_jobs, backup_tests, backup_refusal}
 
 -- ---- tests that find nothing
 

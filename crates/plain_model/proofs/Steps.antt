@@ -2,20 +2,19 @@
 use Rattle.std.proofs.Common.{arith}
 use Rattle.std.proofs.lemmas.Grind.{common_steps}
 use Rattle.std.proofs.Common.{rules}
-use Rattle.std.proofs.Common.{◌≡◌, ℕ, List, sym, subst}
+use Rattle.std.proofs.Common.{◌≡◌, ℕ, List}
 use Rattle.core_events.specs.Events.{Request, Event, Guest, Monitor, Tick}
 use Rattle.core_events.specs.declared.commands.Command.{Command}
 use Rattle.core_events.specs.Answers.{Answer}
-use Rattle.plain_model.specs.Space.{IsShapedStore}
 use Rattle.plain_model.specs.Machine.{Machine, size_of}
 use Rattle.plain_model.specs.Requests.{HasBytes}
 use Rattle.plain_model.specs.Actions.{Held}
-use Rattle.plain_model.specs.Outcome.{RequestEnd, Well, Untouched, Torn, Trouble, command, numbered, outcome}
+use Rattle.plain_model.specs.Outcome.{RequestEnd, Trouble, numbered, outcome}
 use Rattle.plain_model.specs.Step.{Step, IsWhole, IsLeft, StepContents, StepSpace}
 use Rattle.plain_model.specs.Faults.{Rise}
 use Rattle.plain_model.specs.Laws.{IsFit}
 use Rattle.plain_model.specs.Sound.{IsSound}
-use Rattle.plain_model.proofs.Commands.{IsSoundAfter, command_sound}
+use Rattle.plain_model.proofs.Commands.{command_sound}
 use Rattle.plain_model.proofs.Guest.{guest_is_sound}
 use Rattle.plain_model.proofs.Served.{tick_is_sound}
 use Rattle.plain_model.proofs.Sizes.{guest_size, tick_size}

@@ -2,15 +2,15 @@
 use Rattle.std.proofs.Common.{arith}
 use Rattle.std.proofs.lemmas.Grind.{common_steps}
 use Rattle.std.proofs.Common.{rules}
-use Rattle.std.proofs.Common.{◌≡◌, ◌≢◌, ℕ, ◌+◌, Bool, true, false, refl, sym, ap, subst, ◌∙◌, List, [], ◌∷◌, map}
+use Rattle.std.proofs.Common.{◌≡◌, ◌≢◌, ℕ, ◌+◌, Bool, true, refl, sym, ap, subst, List, [], ◌∷◌, map}
 use Rattle.std.specs.Prelude.{Option, Some, None, Ok, not, ◌==◌, bytes_eq}
 use Rattle.std.specs.Bool.{then_some}
-use Rattle.std.proofs.lemmas.Bool.{eqb-true, eq-eqb}
+use Rattle.std.proofs.lemmas.Bool.{eqb-true}
 use Rattle.std.proofs.lemmas.Slice.Eq.{bytes_eq-Decides}
 use Rattle.span_algebra.specs.declared.points.Point.{Point}
 use Rattle.span_algebra.specs.declared.spans.Base.TheVariants.{Whole, Since, Loose}
 use Rattle.span_algebra.specs.Points.{same_point}
-use Rattle.span_algebra.proofs.PointOrder.{same_point-true, same_point-itself}
+use Rattle.span_algebra.proofs.PointOrder.{same_point-true}
 use Rattle.monitor_model.specs.Commands.{first_of}
 use Rattle.plain_model.specs.Records.{Backup, BackupState, Blank, Begun, Sealed, Follow, IsChain, ChainFault, OtherDisk, OtherSize, Gap, Link, first_fault, later_fault, point_in, refused_from, refused_file}
 use Rattle.plain_model.specs.Laws.{TakenAreChains}

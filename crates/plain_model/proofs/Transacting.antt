@@ -1,9 +1,9 @@
 -- A transaction takes a sound state to a sound state.
 use Rattle.std.proofs.lemmas.Grind.{common_steps}
 use Rattle.std.proofs.Common.{rules}
-use Rattle.std.proofs.Common.{◌≡◌, ◌≢◌, ℕ, length, ◌+◌, ◌≤◌, List, [], ◌∷◌, Bool, false, inl, inr, refl, sym, ap, subst, ◌∙◌, arith}
-use Rattle.std.specs.Prelude.{All, None, Result, Ok, Err, ◌==◌, if◌then◌else◌}
-use Rattle.std.proofs.lemmas.Bool.{cases_Bool, cond-true, cond-false, eqb-false}
+use Rattle.std.proofs.Common.{◌≡◌, ◌≢◌, ℕ, length, ◌+◌, List, [], ◌∷◌, Bool, false, refl, sym, ap, subst, ◌∙◌, arith}
+use Rattle.std.specs.Prelude.{None, Result, Ok, Err, ◌==◌, if◌then◌else◌}
+use Rattle.std.proofs.lemmas.Bool.{eqb-false}
 use Rattle.span_algebra.specs.declared.points.Point.{Point}
 use Rattle.span_algebra.specs.Timelines.{IsRising}
 use Rattle.span_algebra.specs.Timelines as timelines
@@ -14,16 +14,16 @@ use Rattle.core_events.specs.declared.commands.Action.{Action}
 use Rattle.core_events.specs.declared.commands.Action.TheVariants.{Add, Remove, Clear, Enable, Disable, Merge, Backup, Abort}
 use Rattle.core_events.specs.declared.refusals.Refusal.{Refusal}
 use Rattle.core_events.specs.declared.refusals.Refusal.TheVariants.{OutOfMemory, SerialSpent}
-use Rattle.plain_model.specs.History.{History, Reached, IsHistory, with_entry, timeline_of}
-use Rattle.plain_model.specs.Machine.{Machine, GoneView, size_of, last_number, next_point}
+use Rattle.plain_model.specs.History.{History, Reached, with_entry, timeline_of}
+use Rattle.plain_model.specs.Machine.{Machine, size_of, last_number, next_point}
 use Rattle.plain_model.specs.Laws.{IsFit}
 use Rattle.plain_model.specs.Actions.{Held, Hindrance, RefusedAt, with_bitmaps, after_merge, merge_sources, unusable, granularity_for, act, is_at, fold_actions, with_point, transact}
 use Rattle.plain_model.specs.Sound.{IsSoundFor, AreNumbers, IsSound}
 use Rattle.plain_model.proofs.Points.{timeline-reached}
 use Rattle.plain_model.proofs.Pointing.{pointed, pointed_history, rising_after}
 use Rattle.plain_model.proofs.ChangedBitmaps.{cleared_sound, enabled_sound, disabled_sound}
-use Rattle.plain_model.proofs.ActingOnBitmaps.{drive_ok, unrefused, with_set, IsBitmapAct, add_keeps, remove_keeps, change_keeps, merge_keeps}
-use Rattle.plain_model.proofs.Acted.{KeepsRest, keeps_then, keeps_as, IsActed}
+use Rattle.plain_model.proofs.ActingOnBitmaps.{drive_ok, unrefused, IsBitmapAct, add_keeps, remove_keeps, change_keeps, merge_keeps}
+use Rattle.plain_model.proofs.Acted.{KeepsRest, keeps_then, IsActed}
 use Rattle.plain_model.proofs.Starting.{backup_keeps}
 
 acted_from : (h : History) (m next : Machine) → IsBitmapAct h m next → IsActed h m next

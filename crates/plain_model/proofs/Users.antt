@@ -1,15 +1,13 @@
 -- The jobs' bitmaps where another bitmap changes.
 use Rattle.std.proofs.Common.{rules}
-use Rattle.std.proofs.Common.{◌≡◌, ℕ, List, true, false, refl, sym, ap, subst, ◌∙◌}
-use Rattle.std.specs.Prelude.{All, Option, Some, None, count_by, bytes_eq}
-use Rattle.std.proofs.lemmas.List.Elements.{All-weaker}
-use Rattle.std.proofs.lemmas.Bool.{both_ways}
+use Rattle.std.proofs.Common.{◌≡◌, ℕ, List, false, refl, sym, ap, ◌∙◌}
+use Rattle.std.specs.Prelude.{All, Option, Some, None, count_by}
 use Rattle.bitmap_model.specs.Bitmap.{BitmapState, is_busy}
 use Rattle.bitmap_model.specs.Bitmaps.{named}
-use Rattle.bitmap_model.proofs.Lists.{same_bytes-itself, other_bytes, named_name, named_all}
+use Rattle.bitmap_model.proofs.Lists.{named_name, named_all}
 use Rattle.plain_model.specs.History.{History}
 use Rattle.plain_model.specs.Jobs.{Job}
-use Rattle.plain_model.specs.Sound.{is_own, uses, IsUsedOnce, SuccessorHolds, HasItsBitmap, AreUsers}
+use Rattle.plain_model.specs.Sound.{is_own, uses, IsUsedOnce, HasItsBitmap, AreUsers}
 use Rattle.plain_model.proofs.Counting.{all_both, one_if, counted_none, none_counted}
 
 -- ---- users of other bitmaps

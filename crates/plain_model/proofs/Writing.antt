@@ -1,10 +1,10 @@
 -- A write on a state in which no missing unit meets the range: the state stays sound.
 use Rattle.std.proofs.Common.{rules}
 use Rattle.std.proofs.lemmas.Grind.{common_steps}
-use Rattle.std.proofs.Common.{◌≡◌, ℕ, ◌+◌, ◌/◌, ◌<◌, ◌≤◌, List, Bool, true, false, Option, Some, None, IsTrue, All, Contains, length, count_by, cond, bytes_eq, get_or, refl, sym, ap, subst, ◌∙◌, inl, inr, arith}
+use Rattle.std.proofs.Common.{◌≡◌, ℕ, ◌+◌, ◌/◌, ◌<◌, ◌≤◌, List, true, false, Option, Some, None, IsTrue, All, Contains, length, bytes_eq, get_or, refl, sym, ap, subst, ◌∙◌, arith}
 use Rattle.std.specs.Prelude.{slice_index, option_map}
-use Rattle.std.proofs.lemmas.Bool.{cases_Bool, cases_lt, both_ways, cond-false}
-use Rattle.std.proofs.lemmas.List.Elements.{All-map, All-weaker, All-contains, All-contains_itself}
+use Rattle.std.proofs.lemmas.Bool.{cases_lt, both_ways}
+use Rattle.std.proofs.lemmas.List.Elements.{All-map, All-weaker, All-contains_itself}
 use Rattle.disk_model.specs.Files.{overlay}
 use Rattle.disk_model.proofs.Bytes.{byte-overlay_below, byte-overlay_above}
 use Rattle.span_algebra.specs.declared.points.Point.{Point}
@@ -32,7 +32,6 @@ use Rattle.plain_model.specs.Outcome.{after_marking}
 use Rattle.plain_model.specs.Sound.{IsSoundBitmap, AreSoundBitmaps, ScopeHolds, IsSoundJob, uses, is_own, IsUsedOnce, SuccessorHolds, HasItsBitmap, AreUsers, IsSoundFor, IsSound}
 use Rattle.plain_model.proofs.Points.{timeline-wrote, now-wrote, disk_at-entry, stands-entry, touched-entry, touched_now-wrote}
 use Rattle.plain_model.proofs.Rising.{rising-write, history-wrote}
-use Rattle.plain_model.proofs.Counting.{none_counted}
 use Rattle.plain_model.proofs.Giving.{found_bitmap}
 use Rattle.plain_model.proofs.Leaving.{all_front}
 use Rattle.plain_model.proofs.Copying.{IsClear}
