@@ -1,4 +1,5 @@
 -- Jobs and views that leave: the state stays sound.
+use Rattle.std.proofs.lemmas.Grind.{common_steps}
 use Rattle.std.proofs.Common.{rules}
 use Rattle.std.proofs.Common.{◌≡◌, ℕ, ◌≤◌, List, [], ◌∷◌, ◌++◌, Bool, true, not, ◌&&◌, Option, Some, None, IsTrue, All, IsPermutation, filter, map, length, refl, sym, ap, subst, ◌∙◌, arith}
 use Rattle.std.specs.List.{list_any}
@@ -62,9 +63,6 @@ staying_order stays jobs views created s =
           ∙ ap (filter stays) s.in_order ∙ filter-map stays id_of views;
     }
 
-stay_none : (p : Job → Bool) (m : Machine) → runners m ≡ [] → filter p m.jobs ++ filter p m.views ≡ []
-stay_none p m none = sym (filter-append p m.jobs m.views) ∙ ap (filter p) none
-
 -- ---- leaving
 
 pub leaving_keeps : (h : History) (change : Job → BitmapState → BitmapState) → IsEnding h change → (leaves : List ℕ → Bool) (m : Machine) → IsSoundFor h m
@@ -79,16 +77,7 @@ leaving_keeps h change ending leaves m s =
     let left : AreLeft h (filter stays m.jobs) _ =
     all_given h change ending (filter goes m.jobs) (filter stays m.jobs) m.bitmaps (All-filter goes Drawn m.jobs drawn) s.bitmaps_are
     (parted_users h goes m.jobs m.bitmaps s.users) in
-    record {
-      sized = s.sized;
-      bitmaps_are = left.sound;
-      jobs_are = staying_jobs h stays m.jobs m.views s.jobs_are;
-      order = staying_order (λ id. not (leaves id)) m.jobs m.views m.created s.order;
-      users = left.users;
-      exports_are = s.exports_are;
-      store_shape = s.store_shape;
-      quiet = λ broken. stay_none stays m (s.quiet broken);
-    }
+    grind (arith, common_steps, staying_jobs h stays m.jobs m.views s.jobs_are, staying_order (λ id. not (leaves id)) m.jobs m.views m.created s.order)
 
 pub leaving_numbers : (change : Job → BitmapState → BitmapState) (leaves : List ℕ → Bool) (m : Machine) → AreNumbers m → AreNumbers (leave change leaves m)
 unfolding leave

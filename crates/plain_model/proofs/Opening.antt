@@ -5,23 +5,19 @@ use Rattle.std.proofs.Common.{◌≡◌, ℕ, ◌+◌, ◌≤◌, List, [], ◌�
 use Rattle.std.specs.Prelude.{All, IsTrue}
 use Rattle.std.proofs.lemmas.List.{length-map}
 use Rattle.std.proofs.lemmas.List.Elements.{All-nil, All-cons, All-head, All-tail, All-map, All-append}
-use Rattle.std.proofs.lemmas.List.Sorted.{IsPermutation-refl}
 use Rattle.std.proofs.lemmas.Bool.Decides.{nat_tests}
-use Rattle.std.proofs.lemmas.Option.{none-some}
 use Rattle.span_algebra.specs.declared.points.Point.{Point}
 use Rattle.span_algebra.specs.Points.{precedes}
 use Rattle.span_algebra.specs.Timelines.{is_after, Rise}
 use Rattle.span_algebra.specs.Timelines as timelines
 use Rattle.bitmap_model.specs.Bitmap.{StoredBitmap, restored}
 use Rattle.bitmap_model.specs.Bitmaps.{most_bitmaps}
-use Rattle.core_events.specs.declared.commands.ExportArgs.{ExportArgs}
-use Rattle.script_model.specs.Recording.{is_drive}
 use Rattle.plain_model.specs.History.{History, IsHistory, timeline_of}
 use Rattle.plain_model.specs.Jobs.{Job}
-use Rattle.plain_model.specs.Machine.{Opening, opened, GoneView}
+use Rattle.plain_model.specs.Machine.{Opening, opened}
 use Rattle.plain_model.specs.Lawful.{IsTrueEntry, IsOfEpoch}
 use Rattle.plain_model.specs.Laws.{IsShapedEntry, IsLawfulOpening}
-use Rattle.plain_model.specs.Sound.{IsSoundBitmap, IsSoundJob, IsViewJob, IsUsedOnce, HasItsBitmap, IsSound}
+use Rattle.plain_model.specs.Sound.{IsSoundBitmap, IsUsedOnce, HasItsBitmap, IsSound}
 use Rattle.plain_model.proofs.Counting.{all_both}
 
 -- ---- the first point of a session
@@ -66,36 +62,15 @@ opening_sound h o is lawful = record {
       apart = lawful.apart;
       few = subst (λ (n : ℕ). n ≤ most_bitmaps) (sym (length-map o.entries restored)) lawful.few;
     };
-    jobs_are = record {
-      each = All-nil (IsSoundJob h);
-      are_views = All-nil IsViewJob;
-      ids = tt;
-      targets = tt;
-      off_drive = refl;
-      few = omega arith;
-    };
-    order = record { all = IsPermutation-refl []; in_order = refl };
+    jobs_are = search rules;
+    order = search rules;
     users = record {
       once = All-map (IsUsedOnce []) restored o.entries (λ k d below. restored_unused _);
       there = All-nil (λ (j : Job). HasItsBitmap h (map restored o.entries) j j.bitmap);
     };
-    exports_are = record {
-      ids = tt;
-      names = tt;
-      writable_ones = All-nil (λ (e : ExportArgs). IsTrue e.writable → IsTrue (is_drive e.node));
-      few = omega arith;
-    };
-    store_shape = record {
-      cluster_some = lawful.store_shape.cluster_some;
-      kind_count = lawful.store_shape.kind_count;
-      table_count = lawful.store_shape.table_count;
-    };
+    exports_are = search rules;
+    store_shape = search rules;
     quiet = λ broken. refl;
   };
-  numbers = record {
-    serials = omega arith;
-    events = omega arith;
-    broken_at = λ n wrong. absurd (none-some n wrong);
-    gone_at = All-nil (λ (v : GoneView). v.event ≤ 0);
-  };
+  numbers = search rules;
 }

@@ -72,14 +72,10 @@ moved_users h j rest bs s =
 
 served_jobs : (h : History) (j : Job) (copied : List Bool) (store : Store) (rest views : List Job) → IsSoundJob h (with_copies copied store j)
     → AreSoundJobs h (j ∷ rest) views → AreSoundJobs h (with_copies copied store j ∷ rest) views
-served_jobs h j copied store rest views new s = record {
-  each = All-cons (IsSoundJob h) (with_copies copied store j) (rest ++ views) new (All-tail (IsSoundJob h) j (rest ++ views) s.each);
-  are_views = s.are_views;
-  ids = s.ids;
-  targets = s.targets;
-  off_drive = s.off_drive;
-  few = s.few;
-}
+served_jobs h j copied store rest views new s = search (
+  rules,
+  All-cons (IsSoundJob h) (with_copies copied store j) (rest ++ views) new (All-tail (IsSoundJob h) j (rest ++ views) s.each),
+)
 
 served_order : (j : Job) (copied : List Bool) (store : Store) (rest views : List Job) (created : List (List ℕ)) → AreInOrder (j ∷ rest) views created
     → AreInOrder (with_copies copied store j ∷ rest) views created
@@ -121,17 +117,7 @@ at_back_is_sound : (m : Machine) (j new : Job) (rest : List Job) → m.jobs ≡ 
 at_back_is_sound m j new rest is same sound s =
     let made : IsSoundFor m.history (record m { jobs = rest ++ with_copies new.copied new.store j ∷ [] }) =
     at_back m.history m j rest new.copied new.store is (subst (IsSoundJob m.history) same sound) s.state in
-    record {
-      history_is = s.history_is;
-      next = s.next;
-      state = subst (λ (i : Job). IsSoundFor m.history (record m { jobs = rest ++ i ∷ [] })) (sym same) made;
-      numbers = record {
-        serials = s.numbers.serials;
-        events = s.numbers.events;
-        broken_at = s.numbers.broken_at;
-        gone_at = s.numbers.gone_at;
-      };
-    }
+    search (rules, subst (λ (i : Job). IsSoundFor m.history (record m { jobs = rest ++ i ∷ [] })) (sym same) made)
 
 -- ---- what was tried
 

@@ -1,4 +1,5 @@
 -- A state in which jobs and views have copied more.
+use Rattle.std.proofs.lemmas.Grind.{common_steps}
 use Rattle.std.proofs.Common.{rules}
 use Rattle.std.proofs.Common.{◌≡◌, ℕ, List, [], ◌∷◌, ◌++◌, All, map, length, bytes_eq, refl, sym, ap, subst, ◌∙◌, arith}
 use Rattle.std.specs.List.{list_any}
@@ -61,13 +62,4 @@ module _ (h : History) (f : Job → Job) (is : IsCopying h f) where
       }
 
   pub serving_keeps : (m : Machine) → IsSoundFor h m → IsSoundFor h (record m { jobs = map f m.jobs; views = map f m.views })
-  serving_keeps m s = record {
-    sized = s.sized;
-    bitmaps_are = s.bitmaps_are;
-    jobs_are = served_jobs m.jobs m.views s.jobs_are;
-    order = served_order m.jobs m.views m.created s.order;
-    users = served_users m.jobs m.bitmaps s.users;
-    exports_are = s.exports_are;
-    store_shape = s.store_shape;
-    quiet = λ broken. sym (map-append f m.jobs m.views) ∙ ap (map f) (s.quiet broken);
-  }
+  serving_keeps m s = grind (arith, common_steps, served_jobs m.jobs m.views s.jobs_are, served_order m.jobs m.views m.created s.order, served_users m.jobs m.bitmaps s.users)

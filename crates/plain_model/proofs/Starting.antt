@@ -4,7 +4,6 @@ use Rattle.std.proofs.Common.{arith}
 use Rattle.std.proofs.lemmas.Grind.{common_steps}
 use Rattle.std.proofs.Common.{◌≡◌, ℕ, List, [], ◌∷◌, ◌++◌, length, Bool, false, not, ◌&&◌, refl, sym, ap, subst, ◌∙◌}
 use Rattle.std.specs.Prelude.{Option, Some, None, Ok, is_some, option_and_then}
-use Rattle.std.proofs.lemmas.Bool.{both_ways}
 use Rattle.span_algebra.specs.declared.points.Point.{Point}
 use Rattle.span_algebra.specs.declared.spans.Base.TheVariants.{Whole}
 use Rattle.span_algebra.specs.Timelines.{Timeline, with_point, IsRising}
@@ -55,29 +54,11 @@ found_ready h m (Some name) s usable =
 -- no bitmap is used
 pub view_starts : (h : History) (m : Machine) (j : Job) → IsSoundFor h m → m.broken ≡ None → IsSoundJob h j → IsViewJob j → IsNewAmong j (runners m)
     → IsSoundFor h (record m { views = m.views ++ j ∷ []; created = m.created ++ j.id ∷ [] })
-view_starts h m j s whole sound view new = record {
-  sized = s.sized;
-  bitmaps_are = s.bitmaps_are;
-  jobs_are = view_joins h m.jobs m.views j s.jobs_are sound view new;
-  order = order_with_view m.jobs m.views m.created j s.order new.id;
-  users = s.users;
-  exports_are = s.exports_are;
-  store_shape = s.store_shape;
-  quiet = λ broken. absurd (both_ways (is_some m.broken) (ap is_some whole) broken);
-}
+view_starts h m j s whole sound view new = search (rules, view_joins h m.jobs m.views j s.jobs_are sound view new, order_with_view m.jobs m.views m.created j s.order new.id)
 
 pub job_starts : (h : History) (m : Machine) (j : Job) (bs : List BitmapState) → IsSoundFor h m → m.broken ≡ None → IsSoundJob h j → IsNewAmong j (runners m)
     → AreKept h (m.jobs ++ j ∷ []) bs → IsSoundFor h (record m { bitmaps = bs; jobs = m.jobs ++ j ∷ []; created = m.created ++ j.id ∷ [] })
-job_starts h m j bs s whole sound new kept = record {
-  sized = s.sized;
-  bitmaps_are = kept.sound;
-  jobs_are = job_joins h m.jobs m.views j s.jobs_are sound new;
-  order = order_with_job m.jobs m.views m.created j s.order new.id;
-  users = kept.users;
-  exports_are = s.exports_are;
-  store_shape = s.store_shape;
-  quiet = λ broken. absurd (both_ways (is_some m.broken) (ap is_some whole) broken);
-}
+job_starts h m j bs s whole sound new kept = search (rules, job_joins h m.jobs m.views j s.jobs_are sound new, order_with_job m.jobs m.views m.created j s.order new.id)
 
 module _ (h : History) (t : Timeline) (p : Point) (is : timeline_of h ≡ with_point t p) (rising : IsRising (with_point t p)) where
   -- bitmaps and users where a push job starts

@@ -6,7 +6,6 @@ use Rattle.std.proofs.Common.{◌≡◌, ◌≢◌, ℕ, ◌+◌, Bool, true, re
 use Rattle.std.specs.Prelude.{Option, Some, None, Ok, not, ◌==◌, bytes_eq}
 use Rattle.std.specs.Bool.{then_some}
 use Rattle.std.proofs.lemmas.Bool.{eqb-true}
-use Rattle.std.proofs.lemmas.Slice.Eq.{bytes_eq-Decides}
 use Rattle.span_algebra.specs.declared.points.Point.{Point}
 use Rattle.span_algebra.specs.declared.spans.Base.TheVariants.{Whole, Since, Loose}
 use Rattle.span_algebra.specs.Points.{same_point}
@@ -49,12 +48,7 @@ later_goes_on link b (Sealed (Since a) q) none =
     let disk = passed (bytes_eq b.id link.id) OtherDisk (then_some (not (b.size == link.size)) OtherSize ∷ then_some (not (same_point a link.point)) Gap ∷ []) none in
     let size = passed (b.size == link.size) OtherSize (then_some (not (same_point a link.point)) Gap ∷ []) disk.1 in
     let base = passed (same_point a link.point) Gap [] size.1 in
-    record {
-      end = q;
-      state_is = ap (λ (p : Point). Sealed (Since p) q) (same_point-true a link.point base.0);
-      disk = (bytes_eq-Decides b.id link.id).0 disk.0;
-      size = eqb-true b.size link.size size.0;
-    }
+    search (rules, ap (λ (p : Point). Sealed (Since p) q) (same_point-true a link.point base.0), eqb-true b.size link.size size.0)
 
 -- ---- all files
 

@@ -175,10 +175,5 @@ marking_is_sound e bytes m long fits clear s = record {
   next = subst (λ (t : Timeline). IsRising (with_point t (next_point m))) (sym (timeline-wrote m.history e.at bytes))
       (rising-write (timeline_of m.history) (record { at = e.at; size = length bytes }) (next_point m) s.next);
   state = marking_keeps m.history e bytes m long fits clear s.state;
-  numbers = record {
-    serials = s.numbers.serials;
-    events = s.numbers.events;
-    broken_at = s.numbers.broken_at;
-    gone_at = s.numbers.gone_at;
-  };
+  numbers = search rules;
 }
