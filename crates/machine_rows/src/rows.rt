@@ -1,4 +1,5 @@
 //! Tables of worked examples. Each function does nothing; its contract is the table.
+#![tactic(auto, unfolding(crate::proofs::Computing::machine_computes))]
 
 ghost use Rattle.machine_rows.specs.Clients.{Negotiations, StatusOverWire, RequestsOverWire, MonitorOverWire, ConnectionsEnd};
 ghost use Rattle.machine_rows.specs.Serving.{ClientsAreServedInTurn, IdleTakingsServeJobs, ClosingsAreTold};

@@ -174,6 +174,7 @@ abbrev pub wrong_in : List Member → Members → Option Fault
 wrong_in [] ms = None
 wrong_in (m ∷ table) ms = if is_wrong m.form (get m.name ms) then Some (WrongType m.name) else wrong_in table ms
 
+-- what the first test that finds something finds
 abbrev pub first_of : {A : Type 0} → List (Option A) → Option A
 first_of [] = None
 first_of (Some a ∷ tests) = Some a

@@ -1,5 +1,6 @@
 -- What an action leaves as it was, and actions one after another.
-use Rattle.std.proofs.Common.{◌≡◌, refl, sym, subst, ◌∙◌}
+use Rattle.std.proofs.Common.{rules}
+use Rattle.std.proofs.Common.{◌≡◌, sym, subst}
 use Rattle.plain_model.specs.History.{History}
 use Rattle.plain_model.specs.Machine.{Machine}
 use Rattle.plain_model.specs.Sound.{IsSoundFor}
@@ -14,19 +15,8 @@ pub record KeepsRest (old new : Machine) : Type 0 where
   pub broken : new.broken ≡ old.broken
   pub store : new.store ≡ old.store
 
-pub keeps_itself : (m : Machine) → KeepsRest m m
-keeps_itself m = record { history = refl; epoch = refl; serial = refl; event = refl; gone = refl; broken = refl; store = refl }
-
 pub keeps_then : (a b c : Machine) → KeepsRest a b → KeepsRest b c → KeepsRest a c
-keeps_then a b c first then_on = record {
-  history = then_on.history ∙ first.history;
-  epoch = then_on.epoch ∙ first.epoch;
-  serial = then_on.serial ∙ first.serial;
-  event = then_on.event ∙ first.event;
-  gone = then_on.gone ∙ first.gone;
-  broken = then_on.broken ∙ first.broken;
-  store = then_on.store ∙ first.store;
-}
+keeps_then a b c first then_on = search rules
 
 pub keeps_as : (m next same : Machine) → next ≡ same → KeepsRest m same → KeepsRest m next
 keeps_as m next same e k = subst (KeepsRest m) (sym e) k

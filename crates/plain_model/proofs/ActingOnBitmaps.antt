@@ -1,7 +1,9 @@
 -- Actions on bitmaps at the last point keep a state sound.
-use Rattle.std.proofs.Common.{◌≡◌, ℕ, List, [], ◌∷◌, ◌++◌, Bool, false, not, inl, inr, refl, sym, ap, subst, ◌∙◌}
+use Rattle.std.proofs.Common.{arith}
+use Rattle.std.proofs.lemmas.Grind.{common_steps}
+use Rattle.std.proofs.Common.{rules}
+use Rattle.std.proofs.Common.{◌≡◌, ℕ, List, [], ◌∷◌, ◌++◌, Bool, false, not, refl, sym, ap, subst, ◌∙◌}
 use Rattle.std.specs.Prelude.{Option, Some, None, Result, Ok, Err, filter}
-use Rattle.std.proofs.lemmas.Bool.{cases_Bool, cond-true, cond-false}
 use Rattle.span_algebra.specs.declared.points.Point.{Point}
 use Rattle.span_algebra.specs.Timelines.{Timeline, with_point, IsRising}
 use Rattle.bitmap_model.specs.Granules.{IsAllowed}
@@ -11,8 +13,6 @@ use Rattle.bitmap_model.proofs.Lists.{named_all}
 use Rattle.bitmap_model.proofs.Faults.{IsUsable, IsAddable, added_ok, removed_ok, changed_ok, merging_ok}
 use Rattle.core_events.specs.declared.commands.SourceName.{SourceName}
 use Rattle.core_events.specs.declared.refusals.Refusal.{Refusal}
-use Rattle.core_events.specs.declared.refusals.Refusal.TheVariants.{NodeUnknown}
-use Rattle.script_model.specs.Recording.{is_drive}
 use Rattle.plain_model.specs.History.{History, timeline_of}
 use Rattle.plain_model.specs.Machine.{Machine, size_of}
 use Rattle.plain_model.specs.Actions.{bitmap_refusal, with_bitmaps, on_drive, source_refusal, merge_sources}
@@ -22,11 +22,7 @@ use Rattle.plain_model.proofs.ChangedBitmaps.{KeepsSound, AreKept, added_sound, 
 -- ---- what isn't refused
 
 pub drive_ok : (node : List ℕ) (r : Result Machine Refusal) (next : Machine) → on_drive node r ≡ Ok next → r ≡ Ok next
-drive_ok node r next h =
-    elim (cases_Bool (is_drive node)) [
-      | inl is ↦ sym (cond-true (is_drive node) r (Err (NodeUnknown node)) is) ∙ h
-      | inr other ↦ absurd (cc (cond-false (is_drive node) r (Err (NodeUnknown node)) other))
-    ]
+drive_ok node r next h = search rules
 
 -- the machine has other bitmaps, and else all as it was
 abbrev pub with_set : Machine → List BitmapState → Machine
@@ -34,21 +30,18 @@ with_set m bs = record m { bitmaps = bs }
 
 pub bitmaps_ok : (m : Machine) (name : List ℕ) (g : ℕ) (r : Result (List BitmapState) BitmapFault) (next : Machine) → with_bitmaps m name g r ≡ Ok next
     → (bs : List BitmapState) × (r ≡ Ok bs) × (next ≡ with_set m bs)
-bitmaps_ok m name g (Ok bs) next h = (bs, refl, cc)
-bitmaps_ok m name g (Err fault) next h = absurd (cc)
+bitmaps_ok m name g o next h = grind (arith, common_steps)
 
 -- where nothing refuses, the rest is the answer
 pub unrefused : {A : Type 0} (o : Option Refusal) (r : Result A Refusal) (next : A)
     → (elim o as (λ (x : Option Refusal). Result A Refusal) [ Some refusal ↦ Err refusal | None ↦ r ]) ≡ Ok next → (o ≡ None) × (r ≡ Ok next)
-unrefused None r next h = (refl, h)
-unrefused (Some refusal) r next h = absurd (cc)
+unrefused o r next h = grind (arith, common_steps)
 
 -- one source is merged, and then the others
 merged_then : (target name : List ℕ) (p : Point) (sources : List SourceName) (m next : Machine) (r : Result (List BitmapState) BitmapFault)
     → (elim r as (λ (x : Result (List BitmapState) BitmapFault). Result Machine Refusal) [ Ok bs ↦ merge_sources target p sources (with_set m bs) | Err fault ↦ Err (bitmap_refusal name 0 fault) ]) ≡ Ok next
     → (bs : List BitmapState) × (r ≡ Ok bs) × (merge_sources target p sources (with_set m bs) ≡ Ok next)
-merged_then target name p sources m next (Ok bs) h = (bs, refl, h)
-merged_then target name p sources m next (Err fault) h = absurd (cc)
+merged_then target name p sources m next o h = grind (arith, common_steps)
 
 -- ---- a state with other bitmaps
 
@@ -56,16 +49,7 @@ pub bitmaps_of : (h : History) (m : Machine) → IsSoundFor h m → AreKept h m.
 bitmaps_of h m s = record { sound = s.bitmaps_are; users = s.users }
 
 pub with_kept : (h : History) (m : Machine) (bs : List BitmapState) → IsSoundFor h m → AreKept h m.jobs bs → IsSoundFor h (with_set m bs)
-with_kept h m bs s k = record {
-  sized = s.sized;
-  bitmaps_are = k.sound;
-  jobs_are = s.jobs_are;
-  order = s.order;
-  users = k.users;
-  exports_are = s.exports_are;
-  store_shape = s.store_shape;
-  quiet = s.quiet;
-}
+with_kept h m bs s k = search rules
 
 -- the next machine has other bitmaps alone, and is sound
 pub record IsBitmapAct (h : History) (m next : Machine) : Type 0 where

@@ -1,36 +1,30 @@
 -- What denials, refusals, transactions and a break of the source leave.
-use Rattle.std.proofs.Common.{◌≡◌, ◌≢◌, ℕ, suc, ◌+◌, ◌<◌, Bool, true, false, refl, ap, ◌∙◌, arith, List, [], ◌∷◌, length}
-use Rattle.std.specs.Prelude.{Option, Some, None, is_some, option_and_then, Result, Ok, Err, filter, ◌==◌}
-use Rattle.std.proofs.lemmas.Bool.{cond_both, cond-false, ne_eqb}
+use Rattle.std.proofs.lemmas.Grind.{common_steps}
+use Rattle.std.proofs.Common.{rules}
+use Rattle.std.proofs.Common.{◌≡◌, ◌≢◌, ℕ, ◌+◌, ◌<◌, Bool, true, false, refl, ap, ◌∙◌, arith, List, [], ◌∷◌, length}
+use Rattle.std.specs.Prelude.{Option, Some, None, is_some, Result, Ok, Err, filter}
+use Rattle.std.proofs.lemmas.Bool.{cond_both}
 use Rattle.span_algebra.specs.declared.points.Point.{Point}
 use Rattle.span_algebra.specs.Timelines.{Extent}
-use Rattle.bitmap_model.specs.Bitmap.{BitmapState, when_cleared, when_enabled, when_disabled}
-use Rattle.bitmap_model.specs.Bitmaps.{BitmapFault, named, after_remove, after_change, after_merging}
-use Rattle.core_events.specs.Events.{Request, Event, Guest, Monitor, Tick}
-use Rattle.core_events.specs.declared.commands.SyncKind.{SyncKind}
-use Rattle.core_events.specs.declared.commands.SyncKind.TheVariants.{Full, Incremental, Bitmap, Nothing}
+use Rattle.core_events.specs.Events.{Request, Event, Guest, Monitor}
 use Rattle.core_events.specs.declared.commands.SourceName.{SourceName}
-use Rattle.core_events.specs.declared.commands.BackupArgs.{BackupArgs}
 use Rattle.core_events.specs.declared.commands.Action.{Action}
-use Rattle.core_events.specs.declared.commands.Action.TheVariants.{Add, Remove, Clear, Enable, Disable, Merge, Backup, Abort}
-use Rattle.core_events.specs.declared.commands.ExportArgs.{ExportArgs}
 use Rattle.core_events.specs.declared.commands.Command.{Command}
-use Rattle.core_events.specs.declared.commands.Command.TheVariants.{Act, Transaction, JobCancel, QueryJobs, QueryNodes, ExportAdd, Quit}
+use Rattle.core_events.specs.declared.commands.Command.TheVariants.{Transaction}
 use Rattle.core_events.specs.declared.answers.Errno.{Errno}
 use Rattle.core_events.specs.declared.answers.Errno.TheVariants.{Io}
 use Rattle.core_events.specs.declared.answers.JobFault.{JobFault}
 use Rattle.core_events.specs.declared.answers.JobFault.TheVariants.{Failed}
 use Rattle.core_events.specs.declared.refusals.Refusal.{Refusal}
-use Rattle.core_events.specs.declared.refusals.Refusal.TheVariants.{NodeUnknown, JobUnknown, OutOfMemory, SerialSpent}
-use Rattle.core_events.specs.Answers.{Reply, Done, Fault, Jobs, Nodes, Refused}
+use Rattle.core_events.specs.declared.refusals.Refusal.TheVariants.{NodeUnknown, JobUnknown, OutOfMemory}
+use Rattle.core_events.specs.Answers.{Reply, Done, Fault, Refused}
 use Rattle.script_model.specs.Recording.{is_drive}
-use Rattle.plain_model.specs.Jobs.{Job, Tried, copies, next_unit}
+use Rattle.plain_model.specs.Jobs.{Job, next_unit}
 use Rattle.plain_model.specs.Machine.{Machine, size_of, last_number, next_point, runners, job_of}
 use Rattle.plain_model.specs.Requests.{granted, is_write, range_of}
 use Rattle.plain_model.specs.Ending.{leave, given_back, after_break, cancellation}
-use Rattle.plain_model.specs.Actions.{Held, Absent, Faulty, Target, Hindrance, bitmap_refusal, with_bitmaps, on_drive, unusable, source_refusal, merge_sources, after_merge, backup_refusal, new_job, with_job, freeze_bitmap, started_on, granularity_for, RefusedAt, is_at, act, fold_actions, with_point, transact}
-use Rattle.plain_model.specs.Queries.{job_infos, node_infos, export_refusal, with_export}
-use Rattle.plain_model.specs.Outcome.{Trouble, Outcome, answered, with_reply, Fate, Denied, Lost, Carried, CarriedInPart, fate, after_copying, after_marking, after_writing, bytes_of, by_fate, breaks_by, or_break, guest, is_this, after_try, after_seal, tick_of, tick, refused, number_in, after_transaction, after_cancel, unless_wanting, after_export, command, numbered, outcome}
+use Rattle.plain_model.specs.Actions.{Held, Hindrance, on_drive, merge_sources, RefusedAt, act, fold_actions, with_point, transact}
+use Rattle.plain_model.specs.Outcome.{Trouble, Outcome, answered, with_reply, Fate, Denied, Lost, Carried, CarriedInPart, fate, after_copying, after_marking, after_writing, bytes_of, by_fate, breaks_by, or_break, guest, is_this, after_try, after_seal, tick_of, tick, refused, number_in, after_transaction, after_cancel, unless_wanting, command, numbered, outcome}
 use Rattle.plain_model.specs.Laws.{IsUnmoved, DrawsAPoint, AnswersIo}
 use Rattle.plain_model.proofs.Memory.{acted, with_drawn}
 use Rattle.plain_model.proofs.Quiet.{served_by}
@@ -39,11 +33,7 @@ use Rattle.plain_model.proofs.Quiet.{served_by}
 
 -- an outcome that is a reply alone leaves the machine unmoved
 unmoved : (m : Machine) (reply : Reply) (o : Outcome) → o ≡ answered reply (numbered m) → IsUnmoved m reply o
-unmoved m reply o is = record {
-  reply_is = ap (λ (a : Outcome). a.answer.reply) is;
-  notices_are = ap (λ (a : Outcome). a.answer.notices) is;
-  machine_is = ap (λ (a : Outcome). a.machine) is;
-}
+unmoved m reply o is = search rules
 
 -- a request that is denied is answered so
 denied_guest : (t : Trouble) (r : Request) (m : Machine) (errno : Errno) → fate t r m ≡ Denied errno → guest t r m ≡ answered (Fault errno) m
@@ -60,19 +50,9 @@ denial_unmoved held t r m errno denied = unmoved m (Fault errno) (guest t r (num
 abbrev IsPlain : Machine → Outcome → Type 0
 IsPlain m o = (number : Option ℕ) (refusal : Refusal) → o.answer.reply ≡ Refused number refusal → o ≡ refused number refusal m
 
--- a reply alone is nothing else
-plain-refused : (m : Machine) (reply : Reply) → IsPlain m (answered reply m)
-plain-refused m reply number refusal is = ap (λ (r : Reply). answered r m) is
-
--- a transaction that is refused is nothing else
-plain-transaction : (m : Machine) (number : ℕ → Option ℕ) (result : Result Machine RefusedAt) → IsPlain m (after_transaction number result m)
-plain-transaction m number (Ok next) k refusal is = absurd (cc)
-plain-transaction m number (Err r) k refusal is = ap (λ (reply : Reply). answered reply m) is
-
 -- want of memory is nothing else
 plain-unless : (m : Machine) (memory : Option ℕ) (o : Outcome) → IsPlain m o → IsPlain m (unless_wanting memory o m)
-plain-unless m None o plain = plain
-plain-unless m (Some k) o plain = plain-refused m (Refused None OutOfMemory)
+plain-unless m x o plain = grind (arith, common_steps)
 
 -- a cancelling, by the job that was found
 abbrev cancelled_by : List ℕ → Machine → Option Job → Outcome
@@ -81,46 +61,28 @@ cancelled_by id m found = elim found [
   | Some j ↦ with_reply Done (record { machine = leave given_back (is_this id) m; notices = cancellation (size_of m) j ∷ [] })
 ]
 
--- one that is refused is nothing else
-plain-cancelled : (id : List ℕ) (m : Machine) (found : Option Job) → IsPlain m (cancelled_by id m found)
-plain-cancelled id m None = plain-refused m (Refused None (JobUnknown id))
-plain-cancelled id m (Some j) = λ number refusal is. absurd (cc)
-
 -- the same of the command
 plain-cancel : (id : List ℕ) (m : Machine) → IsPlain m (after_cancel id m)
 unfolding after_cancel
-plain-cancel id m = plain-cancelled id m (job_of id (runners m))
-
--- an export that is refused is nothing else
-plain-export : (m next : Machine) (why : Option Refusal) → IsPlain m (after_export why (answered Done next) m)
-plain-export m next None = λ number refusal is. absurd (cc)
-plain-export m next (Some why) = plain-refused m (Refused None why)
+plain-cancel id m = search rules
 
 -- so it is for every command
 plain-command : (held : List ℕ → Held) (h : Hindrance) (c : Command) (m : Machine) → IsPlain m (command held h c m)
 unfolding command
-plain-command held h (Act action) m = plain-transaction m (λ k. None) (transact held h (action ∷ []) m)
-plain-command held h (Transaction actions) m = plain-transaction m (number_in actions) (transact held h actions m)
-plain-command held h (JobCancel id) m = plain-unless m h.memory (after_cancel id m) (plain-cancel id m)
-plain-command held h QueryJobs m = plain-unless m h.memory _ (plain-refused m _)
-plain-command held h QueryNodes m = plain-unless m h.memory _ (plain-refused m _)
-plain-command held h (ExportAdd args) m = plain-unless m h.memory _ (plain-export m (with_export args m) (export_refusal args m))
-plain-command held h Quit m = plain-unless m h.memory (answered Done (record m { ended = true })) (λ number refusal is. absurd (cc))
+plain-command held h o m = grind (arith, common_steps, plain-unless, plain-cancel)
 
 -- a command that is refused changes nothing
 pub refusal_unmoved : (held : List ℕ → Held) (t : Trouble) (c : Command) (m : Machine) (number : Option ℕ) (refusal : Refusal)
     → (outcome held t (Monitor c) m).answer.reply ≡ Refused number refusal → IsUnmoved m (Refused number refusal) (outcome held t (Monitor c) m)
 unfolding outcome
-refusal_unmoved held t c m number refusal is =
-    unmoved m (Refused number refusal) (command held t.hindrance c (numbered m)) (plain-command held t.hindrance c (numbered m) number refusal is)
+refusal_unmoved held t c m number refusal is = search (rules, unmoved, plain-command)
 
 -- ---- transactions
 
 -- where there is no action and a serial is left, the point is drawn
 drawn : (held : List ℕ → Held) (h : Hindrance) (m : Machine) → m.serial ≢ last_number → transact held h [] m ≡ Ok (with_point (next_point m) m)
 unfolding transact
-drawn held h m left =
-    cond-false (m.serial == last_number) (Err (record { action = 0; refusal = SerialSpent })) (Ok (with_point (next_point m) m)) (ne_eqb m.serial last_number left)
+drawn held h m left = search rules
 
 -- so the transaction is done
 empty_done : (held : List ℕ → Held) (h : Hindrance) (m : Machine) → m.serial ≢ last_number → command held h (Transaction []) m ≡ answered Done (with_point (next_point m) m)
@@ -130,38 +92,18 @@ empty_done held h m left = ap (λ (result : Result Machine RefusedAt). after_tra
 -- a transaction without actions draws a point
 pub empty_draws : (held : List ℕ → Held) (t : Trouble) (m : Machine) → m.serial ≢ last_number → DrawsAPoint m (outcome held t (Monitor (Transaction [])) m)
 unfolding outcome
-empty_draws held t m left =
-    let is : command held t.hindrance (Transaction []) (numbered m) ≡ answered Done (with_point (next_point m) (numbered m)) = empty_done held t.hindrance (numbered m) left in
-    record {
-      reply_is = ap (λ (o : Outcome). o.answer.reply) is;
-      notices_are = ap (λ (o : Outcome). o.answer.notices) is;
-      machine_is = ap (λ (o : Outcome). o.machine) is;
-    }
+empty_draws held t m left = search (rules, empty_done)
 
 -- an action that is refused is one of those from number k on
 abbrev IsAmong : ℕ → ℕ → Result Machine RefusedAt → Type 0
 IsAmong k count (Ok next) = Unit {0}
 IsAmong k count (Err r) = r.action < k + count
 
--- one from the next number on is one from this number on
-among_later : (k count : ℕ) (result : Result Machine RefusedAt) → IsAmong (k + 1) count result → IsAmong k (suc count) result
-among_later k count (Ok next) among = tt
-among_later k count (Err r) among = omega (arith, among)
-
--- what is refused behind an action, or there, is among them
-acted_among : (held : List ℕ → Held) (h : Hindrance) (p : Point) (k : ℕ) (actions : List Action) (result : Result Machine Refusal)
-    → ((next : Machine) → IsAmong (k + 1) (length actions) (fold_actions held h p (k + 1) actions next)) → IsAmong k (suc (length actions)) (acted held h p k actions result)
-acted_among held h p k actions (Ok next) more = among_later k (length actions) (fold_actions held h p (k + 1) actions next) (more next)
-acted_among held h p k actions (Err refusal) more = omega arith
-
 -- what is refused of a list of actions is among them
 fold_among : (held : List ℕ → Held) (h : Hindrance) (p : Point) (k : ℕ) (actions : List Action) (m : Machine)
     → IsAmong k (length actions) (fold_actions held h p k actions m)
 fold_among held h p k [] m = tt
-fold_among held h p k (a ∷ actions) m =
-    cond_both (is_at h.memory k) (Err (record { action = k; refusal = OutOfMemory })) (acted held h p k actions (act held h.unread p a m))
-    (IsAmong k (suc (length actions))) (λ _. omega arith)
-    (λ _. acted_among held h p k actions (act held h.unread p a m) (fold_among held h p (k + 1) actions))
+fold_among held h p k (a ∷ actions) m = search (rules, fold_among held h p (k + 1) actions)
 
 -- want of memory is that of an action
 abbrev IsWanting : ℕ → Result Machine RefusedAt → Type 0
@@ -170,31 +112,23 @@ IsWanting count (Err r) = r.refusal ≡ OutOfMemory → r.action < count
 
 -- drawing it leaves refusals as they are
 drawn_wanting : (p : Point) (count : ℕ) (result : Result Machine RefusedAt) → IsAmong 0 count result → IsWanting count (with_drawn p result)
-drawn_wanting p count (Ok next) among = tt
-drawn_wanting p count (Err r) among = λ wanting. omega (arith, among)
+drawn_wanting p count o among = grind (arith, common_steps)
 
 -- want of memory in a transaction is that of one of its actions
 transact_wanting : (held : List ℕ → Held) (h : Hindrance) (actions : List Action) (m : Machine) → IsWanting (length actions) (transact held h actions m)
 unfolding transact
-transact_wanting held h actions m =
-    let p : Point = next_point m in
-    cond_both (m.serial == last_number) (Err (record { action = 0; refusal = SerialSpent })) (with_drawn p (fold_actions held h p 0 actions m))
-    (IsWanting (length actions)) (λ _ spent. absurd (cc))
-    (λ _. drawn_wanting p (length actions) (fold_actions held h p 0 actions m) (fold_among held h p 0 actions m))
+transact_wanting held h actions m = search (rules, cond_both, with_drawn, drawn_wanting, fold_among)
 
 -- its number is told
 numbers_one : (actions : List Action) (m : Machine) (number : Option ℕ) (result : Result Machine RefusedAt) → IsWanting (length actions) result
     → (after_transaction (number_in actions) result m).answer.reply ≡ Refused number OutOfMemory → (k : ℕ) × (number ≡ Some k) × (k < length actions)
-numbers_one actions m number (Ok next) wanting is = absurd (cc)
-numbers_one [] m number (Err r) wanting is = absurd (omega (arith, wanting (cc)))
-numbers_one (a ∷ actions) m number (Err r) wanting is = (r.action, cc, wanting (cc))
+numbers_one actions m number o wanting is = grind (arith, common_steps)
 
 -- where memory is wanting for a transaction, one of its actions is named
 pub wanting_numbers : (held : List ℕ → Held) (t : Trouble) (actions : List Action) (m : Machine) (number : Option ℕ)
     → (outcome held t (Monitor (Transaction actions)) m).answer.reply ≡ Refused number OutOfMemory → (k : ℕ) × (number ≡ Some k) × (k < length actions)
 unfolding outcome command
-wanting_numbers held t actions m number is =
-    numbers_one actions (numbered m) number (transact held t.hindrance actions (numbered m)) (transact_wanting held t.hindrance actions (numbered m)) is
+wanting_numbers held t actions m number is = search (rules, numbers_one, transact_wanting)
 
 -- ---- where the source breaks
 
@@ -209,100 +143,45 @@ or_refused why result = elim why [ Some refusal ↦ Err refusal | None ↦ resul
 
 -- a refusal before a result leaves it so
 keeps-or_refused : (m : Machine) (why : Option Refusal) (result : Result Machine Refusal) → Keeps m result → Keeps m (or_refused why result)
-keeps-or_refused m None result keeps = keeps
-keeps-or_refused m (Some refusal) result keeps = tt
+keeps-or_refused m o result keeps = grind (arith, common_steps)
 
 -- so does the test of the node
 keeps-on_drive : (node : List ℕ) (m : Machine) (result : Result Machine Refusal) → Keeps m result → Keeps m (on_drive node result)
 keeps-on_drive node m result keeps = cond_both (is_drive node) result (Err (NodeUnknown node)) (Keeps m) (λ _. keeps) (λ _. tt)
 
--- so does a change of bitmaps
-keeps-bitmaps : (m : Machine) (name : List ℕ) (g : ℕ) (result : Result (List BitmapState) BitmapFault) → Keeps m (with_bitmaps m name g result)
-keeps-bitmaps m name g (Ok set) = refl
-keeps-bitmaps m name g (Err fault) = tt
-
--- the sources behind one that was merged
-abbrev merged_on : List ℕ → Point → SourceName → List SourceName → Machine → Result (List BitmapState) BitmapFault → Result Machine Refusal
-merged_on target p s sources m result = elim result [
-  | Ok set ↦ merge_sources target p sources (record m { bitmaps = set })
-  | Err fault ↦ Err (bitmap_refusal s.name 0 fault)
-]
-
--- they leave it so, if they do so from any machine
-keeps-merged : (target : List ℕ) (p : Point) (s : SourceName) (sources : List SourceName) (m : Machine) (result : Result (List BitmapState) BitmapFault)
-    → ((next : Machine) → Keeps next (merge_sources target p sources next)) → Keeps m (merged_on target p s sources m result)
-keeps-merged target p s sources m (Ok set) more = more (record m { bitmaps = set })
-keeps-merged target p s sources m (Err fault) more = tt
-
 -- so do a merge's sources
 keeps-sources : (target : List ℕ) (p : Point) (sources : List SourceName) (m : Machine) → Keeps m (merge_sources target p sources m)
 keeps-sources target p [] m = refl
-keeps-sources target p (s ∷ sources) m =
-    keeps-or_refused m (source_refusal s m) (merged_on target p s sources m (after_merging target s.name p m.bitmaps))
-    (keeps-merged target p s sources m (after_merging target s.name p m.bitmaps) (keeps-sources target p sources))
-
--- so does a new job
-keeps-job : (sync : SyncKind) (j : Job) (m : Machine) → (with_job sync j m).broken ≡ m.broken
-keeps-job Full j m = refl
-keeps-job Incremental j m = refl
-keeps-job Bitmap j m = refl
-keeps-job Nothing j m = refl
-
--- so does the start of a job
-keeps-started : (p : Point) (a : BackupArgs) (held : Held) (m : Machine) → (started_on p a held m).broken ≡ m.broken
-keeps-started p a Absent m = refl
-keeps-started p a (Faulty reason) m = refl
-keeps-started p a (Target blank n store) m =
-    keeps-job a.sync (new_job (size_of m) p a (option_and_then (λ name. named name m.bitmaps) a.bitmap) store) (record m { bitmaps = freeze_bitmap a.bitmap m.bitmaps })
+keeps-sources target p (s ∷ sources) m = search (rules, keeps-sources target p sources)
 
 -- so does every action
 keeps-act : (held : List ℕ → Held) (unread : List ℕ → Bool) (p : Point) (a : Action) (m : Machine) → Keeps m (act held unread p a m)
 unfolding act
-keeps-act held unread p (Add node name granularity persistent recording) m = keeps-on_drive node m _ (keeps-bitmaps m name (granularity_for granularity m) _)
-keeps-act held unread p (Remove node name) m = keeps-on_drive node m _ (keeps-bitmaps m name 0 (after_remove name m.bitmaps))
-keeps-act held unread p (Clear node name) m = keeps-on_drive node m _ (keeps-bitmaps m name 0 (after_change (when_cleared p) name m.bitmaps))
-keeps-act held unread p (Enable node name) m = keeps-on_drive node m _ (keeps-bitmaps m name 0 (after_change (when_enabled p) name m.bitmaps))
-keeps-act held unread p (Disable node name) m = keeps-on_drive node m _ (keeps-bitmaps m name 0 (after_change (when_disabled p) name m.bitmaps))
-keeps-act held unread p (Merge node target sources) m =
-    keeps-on_drive node m (after_merge target p sources m) (keeps-or_refused m (unusable target m) (merge_sources target p sources m) (keeps-sources target p sources m))
-keeps-act held unread p (Backup a) m = keeps-or_refused m (backup_refusal held unread a m) (Ok (started_on p a (held a.target) m)) (keeps-started p a (held a.target) m)
-keeps-act held unread p Abort m = tt
+keeps-act held unread p o m = grind (arith, common_steps, keeps-on_drive, keeps-or_refused, keeps-sources)
 
 -- a list of actions leaves it so too
 abbrev KeepsAll : Machine → Result Machine RefusedAt → Type 0
 KeepsAll m (Ok next) = next.broken ≡ m.broken
 KeepsAll m (Err refused) = Unit {0}
 
--- what is kept in two steps is kept
-keeps_from : (m next : Machine) (result : Result Machine RefusedAt) → next.broken ≡ m.broken → KeepsAll next result → KeepsAll m result
-keeps_from m next (Ok last) same keeps = keeps ∙ same
-keeps_from m next (Err refused) same keeps = tt
-
 -- actions behind one that keeps it keep it
 keeps-acted : (held : List ℕ → Held) (h : Hindrance) (p : Point) (k : ℕ) (actions : List Action) (m : Machine) (result : Result Machine Refusal)
     → ((next : Machine) → KeepsAll next (fold_actions held h p (k + 1) actions next)) → Keeps m result → KeepsAll m (acted held h p k actions result)
-keeps-acted held h p k actions m (Ok next) more same = keeps_from m next (fold_actions held h p (k + 1) actions next) same (more next)
-keeps-acted held h p k actions m (Err refusal) more same = tt
+keeps-acted held h p k actions m o more same = grind (arith, common_steps)
 
 -- so does a list of actions
 keeps-fold : (held : List ℕ → Held) (h : Hindrance) (p : Point) (k : ℕ) (actions : List Action) (m : Machine) → KeepsAll m (fold_actions held h p k actions m)
 keeps-fold held h p k [] m = refl
-keeps-fold held h p k (a ∷ actions) m =
-    cond_both (is_at h.memory k) (Err (record { action = k; refusal = OutOfMemory })) (acted held h p k actions (act held h.unread p a m)) (KeepsAll m) (λ _. tt)
-    (λ _. keeps-acted held h p k actions m (act held h.unread p a m) (keeps-fold held h p (k + 1) actions) (keeps-act held h.unread p a m))
+keeps-fold held h p k (a ∷ actions) m = grind (arith, common_steps, keeps-fold held h p (k + 1) actions, cond_both, acted, keeps-acted, keeps-act)
 
 -- so does drawing a point
 keeps-drawn : (p : Point) (m : Machine) (result : Result Machine RefusedAt) → KeepsAll m result → KeepsAll m (with_drawn p result)
-keeps-drawn p m (Ok next) keeps = keeps
-keeps-drawn p m (Err refused) keeps = tt
+keeps-drawn p m o keeps = grind (arith, common_steps)
 
 -- so does a whole transaction
 keeps-transact : (held : List ℕ → Held) (h : Hindrance) (actions : List Action) (m : Machine) → KeepsAll m (transact held h actions m)
 unfolding transact
-keeps-transact held h actions m =
-    let p : Point = next_point m in
-    cond_both (m.serial == last_number) (Err (record { action = 0; refusal = SerialSpent })) (with_drawn p (fold_actions held h p 0 actions m)) (KeepsAll m) (λ _. tt)
-    (λ _. keeps-drawn p m (fold_actions held h p 0 actions m) (keeps-fold held h p 0 actions m))
+keeps-transact held h actions m = search (rules, cond_both, with_drawn, keeps-drawn, keeps-fold)
 
 -- an outcome leaves it so too
 abbrev IsKept : Machine → Outcome → Type 0
@@ -310,46 +189,31 @@ IsKept m o = o.machine.broken ≡ m.broken
 
 -- a transaction keeps it, done or refused
 kept-transaction : (number : ℕ → Option ℕ) (m : Machine) (result : Result Machine RefusedAt) → KeepsAll m result → IsKept m (after_transaction number result m)
-kept-transaction number m (Ok next) keeps = keeps
-kept-transaction number m (Err r) keeps = refl
+kept-transaction number m o keeps = grind (arith, common_steps)
 
 -- so does want of memory
 kept-unless : (m : Machine) (memory : Option ℕ) (o : Outcome) → IsKept m o → IsKept m (unless_wanting memory o m)
-kept-unless m None o keeps = keeps
-kept-unless m (Some k) o keeps = refl
+kept-unless m x o keeps = grind (arith, common_steps)
 
 -- so does a cancelling, found or not
 kept-cancelled : (id : List ℕ) (m : Machine) (found : Option Job) → IsKept m (cancelled_by id m found)
 unfolding leave
-kept-cancelled id m None = refl
-kept-cancelled id m (Some j) = refl
+kept-cancelled id m o = grind (arith, common_steps)
 
 -- the same of the command
 kept-cancel : (id : List ℕ) (m : Machine) → IsKept m (after_cancel id m)
 unfolding after_cancel
 kept-cancel id m = kept-cancelled id m (job_of id (runners m))
 
--- so does an export
-kept-export : (args : ExportArgs) (m : Machine) (why : Option Refusal) → IsKept m (after_export why (answered Done (with_export args m)) m)
-kept-export args m None = refl
-kept-export args m (Some why) = refl
-
 -- so does every command
 kept-command : (held : List ℕ → Held) (h : Hindrance) (c : Command) (m : Machine) → IsKept m (command held h c m)
 unfolding command
-kept-command held h (Act action) m = kept-transaction (λ k. None) m (transact held h (action ∷ []) m) (keeps-transact held h (action ∷ []) m)
-kept-command held h (Transaction actions) m = kept-transaction (number_in actions) m (transact held h actions m) (keeps-transact held h actions m)
-kept-command held h (JobCancel id) m = kept-unless m h.memory (after_cancel id m) (kept-cancel id m)
-kept-command held h QueryJobs m = kept-unless m h.memory (answered (Jobs (job_infos m)) m) refl
-kept-command held h QueryNodes m = kept-unless m h.memory (answered (Nodes (node_infos m)) m) refl
-kept-command held h (ExportAdd args) m = kept-unless m h.memory _ (kept-export args m (export_refusal args m))
-kept-command held h Quit m = kept-unless m h.memory (answered Done (record m { ended = true })) refl
+kept-command held h o m = grind (arith, common_steps, kept-transaction, keeps-transact, kept-unless, kept-cancel)
 
 -- a job that tried to copy leaves it too
 kept-try : (rest : List Job) (j : Job) (stop : Option JobFault) (m : Machine) → IsKept m (after_try rest (record { job = j; stop = stop }) m)
 unfolding leave
-kept-try rest j None m = refl
-kept-try rest j (Some fault) m = refl
+kept-try rest j o m = grind (arith, common_steps)
 
 -- so does a job that completes
 kept-seal : (j : Job) (m : Machine) → IsKept m (after_seal j m)
@@ -360,9 +224,7 @@ kept-seal j m = refl
 kept-served : (j : Job) (rest : List Job) (m : Machine) (fails next : Option ℕ) → IsKept m (served_by j rest m fails next)
 kept-served j rest m fails None =
     cond_both (is_some fails) (after_try rest (record { job = j; stop = Some Failed }) m) (after_seal j m) (IsKept m) (λ _. kept-try rest j (Some Failed) m) (λ _. kept-seal j m)
-kept-served j rest m fails (Some n) =
-    let tried : Tried = copies (size_of m) fails (n ∷ []) j in
-    kept-try rest tried.job tried.stop m
+kept-served j rest m fails (Some n) = search (rules, kept-try)
 
 -- so does a tick on these jobs
 kept-tick_of : (t : Trouble) (jobs : List Job) (m : Machine) → IsKept m (tick_of t jobs m)
@@ -405,8 +267,7 @@ break_by_fate Carried t r m n whole broke =
     let kept : IsKept m (by_fate Carried t r m) =
     cond_both (is_write r.work) wrote (answered (granted r r.work m) m) (IsKept m) (λ _. kept-writing t (range_of r) (bytes_of r r.work) Done m) (λ _. refl) in
     absurd (both_answers n (by_fate Carried t r m).machine.broken (kept ∙ whole) broke)
-break_by_fate (CarriedInPart bytes) t r m n whole broke =
-    break_by r m n t.broke (after_writing t (range_of r) bytes (Fault Io) m) refl (kept-writing t (range_of r) bytes (Fault Io) m) whole broke
+break_by_fate (CarriedInPart bytes) t r m n whole broke = search (rules, break_by, kept-writing)
 
 -- so it is for a request
 break_by_guest : (t : Trouble) (r : Request) (m : Machine) (n : ℕ) → m.broken ≡ None → (guest t r m).machine.broken ≡ Some n → AnswersIo (Guest r) (guest t r m)
@@ -417,7 +278,4 @@ break_by_guest t r m n whole broke = break_by_fate (fate t r m) t r m n whole br
 pub break_answers : (held : List ℕ → Held) (t : Trouble) (event : Event) (m : Machine) (n : ℕ) → m.broken ≡ None → (outcome held t event m).machine.broken ≡ Some n
     → AnswersIo event (outcome held t event m)
 unfolding outcome
-break_answers held t (Guest r) m n whole broke = break_by_guest t r (numbered m) n whole broke
-break_answers held t (Monitor c) m n whole broke =
-    absurd (both_answers n (command held t.hindrance c (numbered m)).machine.broken (kept-command held t.hindrance c (numbered m) ∙ whole) broke)
-break_answers held t Tick m n whole broke = absurd (both_answers n (tick t (numbered m)).machine.broken (kept-tick t (numbered m) ∙ whole) broke)
+break_answers held t o m n whole broke = grind (arith, common_steps, break_by_guest, both_answers, kept-command, kept-tick)

@@ -1,5 +1,6 @@
 -- Where its records are true, a chain gives the disk at its last point.
-use Rattle.std.proofs.Common.{◌≡◌, ℕ, ◌+◌, ◌<◌, Bool, true, false, inl, inr, refl, sym, ap, subst, ◌∙◌, arith, List, [], ◌∷◌, length, map, get_or}
+use Rattle.std.proofs.Common.{rules}
+use Rattle.std.proofs.Common.{◌≡◌, ℕ, ◌<◌, Bool, true, false, inl, inr, refl, sym, ap, subst, ◌∙◌, arith, List, [], ◌∷◌, length, map, get_or}
 use Rattle.std.specs.Prelude.{All, IsTrue, if◌then◌else◌, slice_index}
 use Rattle.std.specs.List.{range_with_len}
 use Rattle.std.proofs.lemmas.List.{ext_get_or}
@@ -26,15 +27,7 @@ use Rattle.plain_model.proofs.Points.{length-disk_at}
 
 byte-outside : (set : ℕ → Bool) (x : ℕ) (disk : List ℕ) (at : ℕ) (bytes : List ℕ) → set x ≡ false → AllBytes (that_pass set) (record { at = at; size = length bytes })
     → get_or (overlay disk at bytes) x 0 ≡ get_or disk x 0
-byte-outside set x disk at bytes absent written =
-    elim (cases_lt x at) [
-      | inl below ↦ byte-overlay_below disk at bytes x below
-      | inr from ↦
-          elim (cases_lt x (at + length bytes)) [
-            | inl inside ↦ absurd (both_ways (set x) absent (written x from inside))
-            | inr above ↦ byte-overlay_above disk at bytes x above
-          ]
-    ]
+byte-outside set x disk at bytes absent written = search (rules, cases_lt, byte-overlay_below, both_ways, byte-overlay_above)
 
 -- a byte outside of what was touched keeps its value up to a point
 untouched : (set : ℕ → Bool) (x : ℕ) → set x ≡ false → (p : Point) (es : List Entry) (disk : List ℕ)
@@ -59,8 +52,7 @@ same_between : (set : ℕ → Bool) (x : ℕ) → set x ≡ false → (a p : Poi
     → has_point a (map without_bytes es) ≡ true → All (AllBytes (that_pass set)) (writes (after_point a (before_point p (map without_bytes es))))
     → get_or (disk_after disk (entries_before p es)) x 0 ≡ get_or (disk_after disk (entries_before a es)) x 0
 same_between set x absent a p order [] disk rising there all = refl
-same_between set x absent a p order (Wrote at bytes ∷ es) disk rising there all =
-    same_between set x absent a p order es (overlay disk at bytes) rising (past_write a (record { at = at; size = length bytes }) (map without_bytes es) there) all
+same_between set x absent a p order (Wrote at bytes ∷ es) disk rising there all = search (rules, same_between set x absent a p order es (overlay disk at bytes) rising (past_write a (record { at = at; size = length bytes }) (map without_bytes es) there) all)
 same_between set x absent a p order (Reached q ∷ es) disk rising there all =
     let ms : List timelines.Entry = map without_bytes es in
     let byte : List Entry → ℕ = λ fs. get_or (disk_after disk fs) x 0 in

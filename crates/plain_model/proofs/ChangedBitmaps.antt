@@ -1,14 +1,14 @@
 -- Changes of one bitmap at the last point keep the bitmaps sound.
+use Rattle.std.proofs.lemmas.Grind.{common_steps}
+use Rattle.std.proofs.Common.{rules}
 use Rattle.std.proofs.Common.{◌≡◌, ℕ, ◌<◌, ◌≤◌, List, [], ◌∷◌, ◌++◌, length, Bool, true, false, not, refl, sym, ap, subst, ◌∙◌, arith}
-use Rattle.std.specs.Prelude.{IsTrue, Some, filter, count_by}
+use Rattle.std.specs.Prelude.{Some, filter, count_by}
 use Rattle.std.specs.List.{list_any}
-use Rattle.std.proofs.lemmas.List.{length-append}
 use Rattle.std.proofs.lemmas.List.Elements.{All-push}
 use Rattle.std.proofs.lemmas.List.Sums.{length-filter, count_by-le-length}
 use Rattle.std.proofs.lemmas.Bool.{cond_both, both_ways}
 use Rattle.span_algebra.specs.declared.points.Point.{Point}
 use Rattle.span_algebra.specs.Timelines.{Timeline, with_point, IsRising}
-use Rattle.span_algebra.specs.Spans.{after_enable, after_disable}
 use Rattle.bitmap_model.specs.Granules.{IsAllowed}
 use Rattle.bitmap_model.specs.Bitmap.{BitmapState, is_busy, new_bitmap, when_cleared, when_enabled, when_disabled, when_merged}
 use Rattle.bitmap_model.specs.Bitmaps.{named, is_named, is_name, changed, most_bitmaps}
@@ -43,67 +43,22 @@ module _ (t : Timeline) (p : Point) (rising : IsRising (with_point t p)) where
   }
 
   pub cleared_sound : (b : BitmapState) → is_busy b ≡ false → b.inconsistent ≡ false → IsSoundBitmap (with_point t p) b → KeepsSound (with_point t p) (when_cleared p) b
-  cleared_sound b idle consistent s = record {
-    sound = record {
-      name_is = s.name_is;
-      shape = cleared_keeps_shape t.start p b s.shape;
-      span_is = cleared_is_true t p b rising;
-      recorded = cleared_keeps_recorded p b;
-      blank = λ wrong. absurd (both_ways b.inconsistent consistent wrong);
-      kept = s.kept;
-    };
-    idle = idle;
-    same_name = refl;
-  }
+  cleared_sound b idle consistent s = search (rules, cleared_keeps_shape t.start p b s.shape, cleared_is_true t p b rising, cleared_keeps_recorded p b)
 
   pub merged_sound : (source b : BitmapState) → is_busy source ≡ false → IsSoundBitmap (with_point t p) source
       → is_busy b ≡ false → b.inconsistent ≡ false → IsSoundBitmap (with_point t p) b → KeepsSound (with_point t p) (when_merged source p) b
-  merged_sound source b free from idle consistent s = record {
-    sound = record {
-      name_is = s.name_is;
-      shape = merged_keeps_shape t.start source p b s.shape;
-      span_is = merged_keeps_true t p t.start source b rising from.shape s.shape free from.span_is s.span_is;
-      recorded = merged_keeps_recorded p source b s.recorded;
-      blank = λ wrong. absurd (both_ways b.inconsistent consistent wrong);
-      kept = s.kept;
-    };
-    idle = idle;
-    same_name = refl;
-  }
+  merged_sound source b free from idle consistent s = search (
+    rules,
+    merged_keeps_shape t.start source p b s.shape,
+    merged_keeps_true t p t.start source b rising from.shape s.shape free from.span_is s.span_is,
+    merged_keeps_recorded p source b s.recorded,
+  )
 
   pub enabled_sound : (b : BitmapState) → is_busy b ≡ false → b.inconsistent ≡ false → IsSoundBitmap (with_point t p) b → KeepsSound (with_point t p) (when_enabled p) b
-  enabled_sound b idle consistent s =
-      let on : BitmapState = record b { recording = true; span = after_enable b.span p } in
-      let still : (when_enabled p b).inconsistent ≡ false = cond_both b.recording b on (λ c. c.inconsistent ≡ false) (λ was. consistent) (λ is. consistent) in
-      record {
-        sound = record {
-          name_is = subst (λ (n : List ℕ). IsTrue (is_name n)) (sym (enabled_name p b)) s.name_is;
-          shape = enabled_keeps_shape t.start p b s.shape;
-          span_is = enabled_keeps_true t p b rising s.span_is;
-          recorded = enabled_keeps_recorded p b s.recorded;
-          blank = λ wrong. absurd (both_ways (when_enabled p b).inconsistent still wrong);
-          kept = λ wrong. absurd (both_ways (when_enabled p b).inconsistent still wrong);
-        };
-        idle = cond_both b.recording b on (λ c. is_busy c ≡ false) (λ was. idle) (λ is. idle);
-        same_name = enabled_name p b;
-      }
+  enabled_sound b idle consistent s = search (rules, cond_both, enabled_name, enabled_keeps_shape, enabled_keeps_true, enabled_keeps_recorded, both_ways)
 
   pub disabled_sound : (b : BitmapState) → is_busy b ≡ false → b.inconsistent ≡ false → IsSoundBitmap (with_point t p) b → KeepsSound (with_point t p) (when_disabled p) b
-  disabled_sound b idle consistent s =
-      let off : BitmapState = record b { recording = false; span = after_disable b.span p } in
-      let still : (when_disabled p b).inconsistent ≡ false = cond_both b.recording off b (λ c. c.inconsistent ≡ false) (λ is. consistent) (λ was. consistent) in
-      record {
-        sound = record {
-          name_is = subst (λ (n : List ℕ). IsTrue (is_name n)) (sym (disabled_name p b)) s.name_is;
-          shape = disabled_keeps_shape t.start p b s.shape;
-          span_is = disabled_keeps_true t p b rising s.span_is;
-          recorded = disabled_keeps_recorded p b s.recorded;
-          blank = λ wrong. absurd (both_ways (when_disabled p b).inconsistent still wrong);
-          kept = λ wrong. absurd (both_ways (when_disabled p b).inconsistent still wrong);
-        };
-        idle = cond_both b.recording off b (λ c. is_busy c ≡ false) (λ is. idle) (λ was. idle);
-        same_name = disabled_name p b;
-      }
+  disabled_sound b idle consistent s = search (rules, cond_both, disabled_name, disabled_keeps_shape, disabled_keeps_true, disabled_keeps_recorded, both_ways)
 
 -- ---- the bitmaps of a state
 
@@ -120,17 +75,14 @@ change_kept h jobs change name bs b keeps found idle changes s =
     let unused : count_by (uses name) jobs ≡ 0 = idle_unused h jobs name bs b s.users found idle in
     let once : IsUsedOnce jobs (change b) =
     ap (λ (n : List ℕ). count_by (uses n) jobs) (changes.same_name ∙ named_name name bs b found) ∙ unused ∙ sym (ap one_if changes.idle) in
-    record {
-      sound = record {
-        each = changed_all_at (IsSoundBitmap (timeline_of h)) change name bs b s.sound.apart found changes.sound s.sound.each;
-        apart = changed_apart change name bs keeps s.sound.apart;
-        few = subst (λ (n : ℕ). n ≤ most_bitmaps) (sym (changed_length change name bs)) s.sound.few;
-      };
-      users = record {
-        once = changed_all_at (IsUsedOnce jobs) change name bs b s.sound.apart found once s.users.once;
-        there = others_kept h jobs name bs (changed change name bs) (λ n apart. changed_other change name n bs apart keeps) unused s.users.there;
-      };
-    }
+    search (
+      rules,
+      changed_all_at (IsSoundBitmap (timeline_of h)) change name bs b s.sound.apart found changes.sound s.sound.each,
+      changed_apart change name bs keeps s.sound.apart,
+      subst (λ (n : ℕ). n ≤ most_bitmaps) (sym (changed_length change name bs)) s.sound.few,
+      changed_all_at (IsUsedOnce jobs) change name bs b s.sound.apart found once s.users.once,
+      others_kept h jobs name bs (changed change name bs) (λ n apart. changed_other change name n bs apart keeps) unused s.users.there,
+    )
 
 pub removal_kept : (h : History) (jobs : List Job) (name : List ℕ) (bs : List BitmapState) (b : BitmapState) → named name bs ≡ Some b → is_busy b ≡ false → AreKept h jobs bs
     → AreKept h jobs (filter (λ c. not (is_named name c)) bs)
@@ -150,14 +102,11 @@ pub addition_kept : (h : History) (jobs : List Job) (bs : List BitmapState) (b :
     → IsSoundBitmap (timeline_of h) b → AreKept h jobs bs → AreKept h jobs (bs ++ b ∷ [])
 addition_kept h jobs bs b free few idle new s =
     let unused : count_by (uses b.name) jobs ≡ 0 = free_unused h jobs b.name bs (untaken_named b.name bs free) s.users.there in
-    record {
-      sound = record {
-        each = All-push (IsSoundBitmap (timeline_of h)) bs b s.sound.each new;
-        apart = added_apart bs b free s.sound.apart;
-        few = omega (arith, few, length-append bs (b ∷ []));
-      };
-      users = record {
-        once = All-push (IsUsedOnce jobs) bs b s.users.once (unused ∙ sym (ap one_if idle));
-        there = others_kept h jobs b.name bs (bs ++ b ∷ []) (λ n apart. added_other n bs b apart) unused s.users.there;
-      };
-    }
+    grind (
+      arith,
+      common_steps,
+      All-push (IsSoundBitmap (timeline_of h)) bs b s.sound.each new,
+      added_apart bs b free s.sound.apart,
+      All-push (IsUsedOnce jobs) bs b s.users.once (unused ∙ sym (ap one_if idle)),
+      others_kept h jobs b.name bs (bs ++ b ∷ []) (λ n apart. added_other n bs b apart) unused s.users.there,
+    )

@@ -1,12 +1,11 @@
 -- What a closing stores is what the next opening restores, and it is true.
-use Rattle.std.proofs.Common.{◌≡◌, List, [], ◌∷◌, map, true, false, inl, inr, refl, sym, ap, subst, ◌∙◌, arith}
-use Rattle.std.specs.Prelude.{All, IsTrue, Option, Some, None, is_some, filter, not}
+use Rattle.std.proofs.lemmas.Grind.{common_steps}
+use Rattle.std.proofs.Common.{rules}
+use Rattle.std.proofs.Common.{◌≡◌, List, [], ◌∷◌, map, true, false, refl, ap, subst, ◌∙◌, arith}
+use Rattle.std.specs.Prelude.{All, IsTrue, Option, None, is_some, filter, not}
 use Rattle.std.proofs.lemmas.List.Elements.{All-map, All-filter, All-weaker, filter_passes}
 use Rattle.std.proofs.lemmas.List.Folds.{map_fixed}
-use Rattle.std.proofs.lemmas.Bool.{cases_Bool, cond-true, both_ways}
-use Rattle.bitmap_model.specs.Bitmap.{BitmapState, is_busy, stored, restored, IsTrueBitmap}
-use Rattle.bitmap_model.specs.BitmapLaws.{IsRecordedToNow}
-use Rattle.bitmap_model.proofs.Stored.{stored_is_restored}
+use Rattle.bitmap_model.specs.Bitmap.{BitmapState, stored, restored}
 use Rattle.plain_model.specs.History.{History, timeline_of}
 use Rattle.plain_model.specs.Jobs.{Job}
 use Rattle.plain_model.specs.Machine.{Machine}
@@ -15,24 +14,12 @@ use Rattle.plain_model.specs.Closing.{lasting}
 use Rattle.plain_model.specs.Lawful.{IsTrueEntry}
 use Rattle.plain_model.specs.Laws.{StoresLasting}
 use Rattle.plain_model.specs.Sound.{IsSoundBitmap, IsUsedOnce, IsSound}
-use Rattle.plain_model.proofs.Counting.{one_if}
 use Rattle.plain_model.proofs.Leaving.{closed_is_sound}
 
 -- ---- one bitmap
 
 none_from : {A : Type 0} (o : Option A) → is_some o ≡ false → o ≡ None
-none_from None h = refl
-none_from (Some a) h = absurd (both_ways true h refl)
-
--- a bitmap that no job uses has no successor
-unused_free : (b : BitmapState) → IsUsedOnce [] b → b.successor ≡ None
-unused_free b once =
-    elim (cases_Bool (is_busy b)) [
-      | inl busy ↦
-          let one : one_if (is_busy b) ≡ 1 = cond-true (is_busy b) 1 0 busy in
-          absurd (omega (arith, one, once))
-      | inr idle ↦ none_from b.successor idle
-    ]
+none_from o h = grind (arith, common_steps)
 
 -- it is restored as it was, and what it says is true
 pub record IsLasting (h : History) (b : BitmapState) : Type 0 where
@@ -40,15 +27,7 @@ pub record IsLasting (h : History) (b : BitmapState) : Type 0 where
   pub truth : IsTrueEntry h (stored b)
 
 lasts : (h : History) (b : BitmapState) → IsTrue b.persistent → IsSoundBitmap (timeline_of h) b → IsUsedOnce [] b → IsLasting h b
-lasts h b kept s once =
-    let same : restored (stored b) ≡ b = stored_is_restored b kept (unused_free b once) s.blank in
-    record {
-      same = same;
-      truth = record {
-        span = subst (IsTrueBitmap (timeline_of h)) (sym same) s.span_is;
-        recorded = subst IsRecordedToNow (sym same) s.recorded;
-      };
-    }
+lasts h b kept s once = search rules
 
 -- ---- a closing
 

@@ -1,27 +1,25 @@
 -- Each command takes a sound state to a sound state.
-use Rattle.std.proofs.Common.{◌≡◌, ℕ, ◌<◌, List, [], ◌∷◌, ◌++◌, length, true, false, not, ◌&&◌, inl, inr, refl, arith}
-use Rattle.std.specs.Prelude.{IsTrue, Option, Some, None, Result, Ok, Err, is_none, nat_le, bytes_eq}
+use Rattle.std.proofs.lemmas.Grind.{common_steps}
+use Rattle.std.proofs.Common.{rules}
+use Rattle.std.proofs.Common.{◌≡◌, ℕ, ◌<◌, List, [], ◌∷◌, ◌++◌, length, false, refl, arith}
+use Rattle.std.specs.Prelude.{IsTrue, Option, None, Result, Ok, Err}
 use Rattle.std.specs.List.{list_any}
-use Rattle.std.specs.Bool.{then_some}
 use Rattle.std.proofs.lemmas.List.{length-append}
 use Rattle.std.proofs.lemmas.List.Elements.{All-push}
-use Rattle.std.proofs.lemmas.Bool.{both_ways, and_cases, leb-false, not-false}
 use Rattle.bitmap_model.proofs.Lists.{same_bytes-back}
 use Rattle.core_events.specs.declared.commands.ExportArgs.{ExportArgs}
 use Rattle.core_events.specs.declared.commands.Command.{Command}
 use Rattle.core_events.specs.declared.commands.Command.TheVariants.{Act, Transaction, JobCancel, QueryJobs, QueryNodes, ExportAdd, Quit}
 use Rattle.core_events.specs.declared.refusals.Refusal.{Refusal}
-use Rattle.core_events.specs.declared.refusals.Refusal.TheVariants.{NodeUnknown, ReadOnlyNode, ExportTaken, TooManyExports}
-use Rattle.core_events.specs.Answers.{Done, Jobs, Nodes}
+use Rattle.core_events.specs.Answers.{Jobs, Nodes}
 use Rattle.script_model.specs.Recording.{is_drive}
-use Rattle.plain_model.specs.Machine.{Machine, size_of, live_view}
+use Rattle.plain_model.specs.Machine.{Machine, size_of}
 use Rattle.plain_model.specs.Laws.{IsFit}
-use Rattle.plain_model.specs.Actions.{Held, Hindrance, RefusedAt, transact}
-use Rattle.plain_model.specs.Queries.{most_exports, job_infos, node_infos, absent_bitmap, export_refusal, with_export}
-use Rattle.plain_model.specs.Outcome.{Outcome, answered, after_transaction, after_cancel, unless_wanting, after_export, number_in, command}
+use Rattle.plain_model.specs.Actions.{Held, Hindrance, RefusedAt}
+use Rattle.plain_model.specs.Queries.{most_exports, job_infos, node_infos, export_refusal, with_export}
+use Rattle.plain_model.specs.Outcome.{Outcome, answered, after_transaction, unless_wanting, after_export, command}
 use Rattle.plain_model.specs.Sound.{have_one_export_id, have_one_export_name, AreSoundExports, IsSound}
 use Rattle.plain_model.proofs.Inserting.{differ_push}
-use Rattle.plain_model.proofs.Startable.{AllNone, first_none, then_none}
 use Rattle.plain_model.proofs.Transacting.{IsTransacted, transact_sound}
 use Rattle.plain_model.proofs.Leaving.{after_cancel_is_sound}
 use Rattle.plain_model.proofs.Sizes.{after_cancel_size}
@@ -35,31 +33,9 @@ pub record IsAddableExport (a : ExportArgs) (m : Machine) : Type 0 where
   pub new_name : list_any (have_one_export_name a) m.exports ≡ false
   pub few : length m.exports < most_exports
 
--- the tests, in their order
-abbrev export_tests : ExportArgs → Machine → List (Option Refusal)
-export_tests a m =
-    then_some (not (is_drive a.node) && is_none (live_view a.node m)) (NodeUnknown a.node)
-    ∷ then_some (not (is_drive a.node) && a.writable) (ReadOnlyNode a.node)
-    ∷ then_some (list_any (λ (e : ExportArgs). bytes_eq a.id e.id) m.exports) (ExportTaken a.id)
-    ∷ then_some (list_any (λ (e : ExportArgs). bytes_eq a.name e.name) m.exports) (ExportTaken a.name)
-    ∷ then_some (nat_le most_exports (length m.exports)) (TooManyExports most_exports)
-    ∷ absent_bitmap a.bitmaps m
-    ∷ []
-
-addable : (a : ExportArgs) (m : Machine) → AllNone (export_tests a m) → IsAddableExport a m
-addable a m t = record {
-  writable = λ writes. elim (and_cases (not (is_drive a.node)) a.writable (then_none (not (is_drive a.node) && a.writable) (ReadOnlyNode a.node) t.1.0)) [
-    | inl drive ↦ not-false (is_drive a.node) drive
-    | inr fixed ↦ absurd (both_ways a.writable fixed writes)
-  ];
-  new_id = then_none (list_any (have_one_export_id a) m.exports) (ExportTaken a.id) t.1.1.0;
-  new_name = then_none (list_any (have_one_export_name a) m.exports) (ExportTaken a.name) t.1.1.1.0;
-  few = leb-false most_exports (length m.exports) (then_none (nat_le most_exports (length m.exports)) (TooManyExports most_exports) t.1.1.1.1.0);
-}
-
 pub export_none : (a : ExportArgs) (m : Machine) → export_refusal a m ≡ None → IsAddableExport a m
 unfolding export_refusal
-export_none a m h = addable a m (first_none (export_tests a m) h)
+export_none a m h = search rules
 
 pub exports_gain : (a : ExportArgs) (m : Machine) → IsAddableExport a m → AreSoundExports m.exports → AreSoundExports (m.exports ++ a ∷ [])
 exports_gain a m new s = record {
@@ -70,40 +46,9 @@ exports_gain a m new s = record {
 }
 
 pub export_sound : (a : ExportArgs) (m : Machine) → IsSound m → export_refusal a m ≡ None → IsSound (with_export a m)
-export_sound a m s h = record {
-  history_is = s.history_is;
-  next = s.next;
-  state = record {
-    sized = s.state.sized;
-    bitmaps_are = s.state.bitmaps_are;
-    jobs_are = s.state.jobs_are;
-    order = s.state.order;
-    users = s.state.users;
-    exports_are = exports_gain a m (export_none a m h) s.state.exports_are;
-    store_shape = s.state.store_shape;
-    quiet = s.state.quiet;
-  };
-  numbers = record { serials = s.numbers.serials; events = s.numbers.events; broken_at = s.numbers.broken_at; gone_at = s.numbers.gone_at };
-}
+export_sound a m s h = search (rules, exports_gain, export_none)
 
 -- ---- other commands
-
-pub quit_sound : (m : Machine) → IsSound m → IsSound (record m { ended = true })
-quit_sound m s = record {
-  history_is = s.history_is;
-  next = s.next;
-  state = record {
-    sized = s.state.sized;
-    bitmaps_are = s.state.bitmaps_are;
-    jobs_are = s.state.jobs_are;
-    order = s.state.order;
-    users = s.state.users;
-    exports_are = s.state.exports_are;
-    store_shape = s.state.store_shape;
-    quiet = s.state.quiet;
-  };
-  numbers = record { serials = s.numbers.serials; events = s.numbers.events; broken_at = s.numbers.broken_at; gone_at = s.numbers.gone_at };
-}
 
 -- the outcome is sound, and its disk as long
 pub record IsSoundAfter (m : Machine) (o : Outcome) : Type 0 where
@@ -116,27 +61,18 @@ transaction_sound number (Ok next) m s went = let t : IsTransacted m next = went
 transaction_sound number (Err refused) m s went = record { sound = s; sized = refl }
 
 unless_sound : (memory : Option ℕ) (o : Outcome) (m : Machine) → IsSound m → IsSoundAfter m o → IsSoundAfter m (unless_wanting memory o m)
-unless_sound None o m s made = made
-unless_sound (Some number) o m s made = record { sound = s; sized = refl }
+unless_sound x o m s made = grind (arith, common_steps)
 
 added_sound : (refusal : Option Refusal) (o : Outcome) (m : Machine) → IsSound m → (refusal ≡ None → IsSoundAfter m o) → IsSoundAfter m (after_export refusal o m)
-added_sound None o m s made = made refl
-added_sound (Some refusal) o m s made = record { sound = s; sized = refl }
+added_sound x o m s made = grind (arith, common_steps)
 
 pub command_sound : (held : List ℕ → Held) (hindrance : Hindrance) (c : Command) (m : Machine) → ((name : List ℕ) → IsFit (held name)) → IsSound m
     → IsSoundAfter m (command held hindrance c m)
 unfolding command
-command_sound held hindrance (Act action) m fit s =
-    transaction_sound (λ k. None) (transact held hindrance (action ∷ []) m) m s (λ next e. transact_sound held hindrance (action ∷ []) m next fit s e)
-command_sound held hindrance (Transaction actions) m fit s =
-    transaction_sound (number_in actions) (transact held hindrance actions m) m s (λ next e. transact_sound held hindrance actions m next fit s e)
-command_sound held hindrance (JobCancel id) m fit s =
-    unless_sound hindrance.memory (after_cancel id m) m s (record { sound = after_cancel_is_sound id m s; sized = after_cancel_size id m })
+command_sound held hindrance (Act action) m fit s = search (rules, transaction_sound, transact_sound)
+command_sound held hindrance (Transaction actions) m fit s = search (rules, transaction_sound, transact_sound)
+command_sound held hindrance (JobCancel id) m fit s = search (rules, unless_sound, after_cancel_is_sound, after_cancel_size)
 command_sound held hindrance QueryJobs m fit s = unless_sound hindrance.memory (answered (Jobs (job_infos m)) m) m s (record { sound = s; sized = refl })
 command_sound held hindrance QueryNodes m fit s = unless_sound hindrance.memory (answered (Nodes (node_infos m)) m) m s (record { sound = s; sized = refl })
-command_sound held hindrance (ExportAdd args) m fit s =
-    let added : Outcome = answered Done (with_export args m) in
-    unless_sound hindrance.memory (after_export (export_refusal args m) added m) m s
-    (added_sound (export_refusal args m) added m s (λ none. record { sound = export_sound args m s none; sized = refl }))
-command_sound held hindrance Quit m fit s =
-    unless_sound hindrance.memory (answered Done (record m { ended = true })) m s (record { sound = quit_sound m s; sized = refl })
+command_sound held hindrance (ExportAdd args) m fit s = search (rules, unless_sound, added_sound, export_sound)
+command_sound held hindrance Quit m fit s = search rules

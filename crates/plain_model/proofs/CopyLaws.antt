@@ -1,19 +1,16 @@
 -- A job of which nothing is missing, and what a copy and the disk have together.
+use Rattle.std.proofs.lemmas.Grind.{common_steps}
+use Rattle.std.proofs.Common.{rules}
 use Rattle.std.proofs.Common.{◌≡◌, ℕ, ◌/◌, ◌<◌, Bool, false, inl, inr, refl, sym, ◌∙◌, arith, List, ◌++◌, length}
 use Rattle.std.specs.Prelude.{None, IsTrue, Contains, if◌then◌else◌, slice_index}
 use Rattle.std.proofs.lemmas.List.{ext_get_or}
-use Rattle.std.proofs.lemmas.List.Elements.{All-contains, All-weaker, Contains-append_left}
-use Rattle.std.proofs.lemmas.Bool.{both_ways, cases_Bool, cond_both, cond-false, false_from_ne_true}
-use Rattle.span_algebra.specs.declared.points.End.TheVariants.{At}
+use Rattle.std.proofs.lemmas.List.Elements.{All-contains, Contains-append_left}
+use Rattle.std.proofs.lemmas.Bool.{both_ways, cases_Bool, false_from_ne_true}
 use Rattle.span_algebra.specs.declared.spans.Base.{Base}
-use Rattle.span_algebra.specs.declared.spans.Base.TheVariants.{Whole, Since, Loose}
-use Rattle.span_algebra.specs.Timelines.{touched}
-use Rattle.span_algebra.specs.Spans.{that_pass, AllBytes}
-use Rattle.span_algebra.proofs.Growth.{wider}
 use Rattle.bitmap_model.specs.Granules.{is_in}
 use Rattle.bitmap_model.specs.Copies.{IsPart, CopyTruth}
 use Rattle.bitmap_model.proofs.Copies.{none_missing}
-use Rattle.plain_model.specs.History.{History, timeline_of}
+use Rattle.plain_model.specs.History.{History}
 use Rattle.plain_model.specs.Jobs.{Job, unit_of, next_unit}
 use Rattle.plain_model.specs.Machine.{Machine, size_of}
 use Rattle.plain_model.specs.Records.{Backup, is_present, BaseHolds}
@@ -33,14 +30,7 @@ one_set a b long there back = ext_get_or false a b long
 
 base_done : (h : History) (j : Job) (b : Backup) (base : Base) → ((x : ℕ) → IsTrue (is_in j.scope (x / unit_of j)) → IsTrue (is_present b x))
     → ScopeHolds h j base → BaseHolds h b base j.point
-base_done h j b Whole done holds = λ x inside. done x (holds x inside)
-base_done h j b (Since a) done holds = record {
-  drawn = holds.drawn;
-  order = holds.order;
-  changes = All-weaker (AllBytes (that_pass (λ x. is_in j.scope (x / unit_of j)))) (AllBytes (that_pass (is_present b)))
-      (wider (that_pass (λ x. is_in j.scope (x / unit_of j))) (that_pass (is_present b)) done) (touched (timeline_of h) a (At j.point)) holds.changes;
-}
-base_done h j b Loose done holds = tt
+base_done h j b o done holds = grind (arith, common_steps)
 
 pub completed_is_true : (m : Machine) (j : Job) (id content : List ℕ) (present : List Bool) → IsSound m → Contains m.jobs j → next_unit j ≡ None
     → HoldsCopies m.history j present content → Completes m j id present content
@@ -63,7 +53,4 @@ completed_is_true m j id content present sound here none holds =
 
 pub read_as_point : (unit : ℕ) (scope copied present : List Bool) (at_point disk copy : List ℕ) (x : ℕ) → CopyTruth unit scope copied at_point disk present copy
     → x < length at_point → IsTrue (is_in scope (x / unit)) → (if is_in copied (x / unit) then slice_index copy x else slice_index disk x) ≡ slice_index at_point x
-read_as_point unit scope copied present at_point disk copy x truth inside there =
-    cond_both (is_in copied (x / unit)) (slice_index copy x) (slice_index disk x) (λ v. v ≡ slice_index at_point x)
-    (λ done. truth.done x inside done)
-    (λ left. truth.left x inside (cond-false (is_in copied (x / unit)) false (is_in scope (x / unit)) left ∙ there))
+read_as_point unit scope copied present at_point disk copy x truth inside there = search rules

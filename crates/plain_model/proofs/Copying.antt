@@ -1,5 +1,7 @@
 -- Jobs and views copy what a write will change: the state stays sound, and no unit that is missing meets the range any more.
-use Rattle.std.proofs.Common.{◌≡◌, ℕ, ◌<◌, ◌&&◌, List, [], ◌∷◌, Bool, true, false, not, Option, Some, None, is_some, IsTrue, All, Contains, filter, map, length, get_or, bytes_eq, refl, sym, ap, subst, ◌∙◌, inl, inr, arith}
+use Rattle.std.proofs.lemmas.Grind.{common_steps}
+use Rattle.std.proofs.Common.{rules}
+use Rattle.std.proofs.Common.{◌≡◌, ℕ, ◌<◌, ◌&&◌, List, [], ◌∷◌, Bool, true, false, not, Option, None, is_some, IsTrue, All, Contains, filter, map, length, get_or, bytes_eq, refl, sym, ap, subst, ◌∙◌, inl, inr, arith}
 use Rattle.std.specs.List.{list_any, range_with_len}
 use Rattle.std.proofs.lemmas.Bool.{cases_Bool, both_ways, and_parts, and_cases, and_from, not-true}
 use Rattle.std.proofs.lemmas.List.{map-append}
@@ -15,7 +17,7 @@ use Rattle.bitmap_model.proofs.Lists.{same_bytes-itself}
 use Rattle.plain_model.specs.History.{History}
 use Rattle.plain_model.specs.Jobs.{Job, Tried, unit_of, has_id, units_before}
 use Rattle.plain_model.specs.Machine.{Machine, size_of, runners}
-use Rattle.plain_model.specs.Ending.{given_back, leave}
+use Rattle.plain_model.specs.Ending.{leave}
 use Rattle.plain_model.specs.Outcome.{Trouble, tried_before, has_stopped, after_copying}
 use Rattle.plain_model.specs.Sound.{IsSoundJob, IsSoundFor}
 use Rattle.plain_model.proofs.Counting.{none_passes}
@@ -50,8 +52,7 @@ passing_all {X} P p xs all =
     λ k d below. both k d below (passes k d below)
 
 stop_none : {A : Type 0} (stop : Option A) → is_some stop ≡ false → stop ≡ None
-stop_none None h = refl
-stop_none (Some a) h = absurd (both_ways true h refl)
+stop_none o h = grind (arith, common_steps)
 
 -- ---- one job
 
@@ -60,10 +61,7 @@ abbrev has_to : Extent → Job → ℕ → Bool
 has_to e j k = is_missing j.scope j.copied k && meets e (granule (unit_of j) k)
 
 units_in_scope : (e : Extent) (j : Job) → All (λ (n : ℕ). IsTrue (is_in j.scope n)) (units_before e j)
-units_in_scope e j =
-    All-weaker (λ (n : ℕ). has_to e j n ≡ true) (λ (n : ℕ). IsTrue (is_in j.scope n))
-    (λ n passes. (missing_parts j.scope j.copied n (and_parts (is_missing j.scope j.copied n) (meets e (granule (unit_of j) n)) passes).0).1)
-    (units_before e j) (filter_passes (has_to e j) (range_with_len 0 (length j.scope)))
+units_in_scope e j = search (rules, missing_parts, and_parts, filter_passes)
 
 pub tried_grows : (t : Trouble) (e : Extent) (size : ℕ) (j : Job) → IsPart j.copied j.scope → IsGrown j (tried_before t e size j).job
 tried_grows t e size j part = copies_grow size (t.failing j.id) (units_before e j) j part (units_in_scope e j)
@@ -99,17 +97,11 @@ tried_is_clear t e size j part long goes =
 -- ---- all of them
 
 pub trying_is_copying : (h : History) (t : Trouble) (e : Extent) (size : ℕ) → IsCopying h (λ (j : Job). (tried_before t e size j).job)
-trying_is_copying h t e size = record {
-  same = λ j. copies_same size (t.failing j.id) (units_before e j) j;
-  sound = λ j s. grown_is_sound h j (tried_before t e size j).job (tried_grows t e size j s.shape.in_scope) s;
-}
+trying_is_copying h t e size = search (rules, copies_same, grown_is_sound, tried_grows)
 
 pub after_copying_keeps : (h : History) (t : Trouble) (e : Extent) (m : Machine) → IsSoundFor h m → IsSoundFor h (after_copying t e m).machine
 unfolding after_copying
-after_copying_keeps h t e m s =
-    let f : Job → Job = λ j. (tried_before t e (size_of m) j).job in
-    leaving_keeps h given_back (given_back_is_ending h) (has_stopped (map (tried_before t e (size_of m)) (runners m)))
-    (record m { jobs = map f m.jobs; views = map f m.views }) (serving_keeps h f (trying_is_copying h t e (size_of m)) m s)
+after_copying_keeps h t e m s = search (rules, leaving_keeps, given_back_is_ending, serving_keeps, trying_is_copying)
 
 -- a job whose id is none of those that stopped didn't stop
 went_well : (try : Job → Tried) (all : List Job) (j : Job) → Contains all j → not (has_stopped (map try all) (try j).job.id) ≡ true → (try j).stop ≡ None

@@ -1,20 +1,18 @@
 -- Counts of what passes a test, and facts on each of a list.
-use Rattle.std.proofs.Common.{◌≡◌, ℕ, ◌+◌, List, [], ◌∷◌, ◌++◌, Bool, false, inl, inr, refl, arith}
+use Rattle.std.proofs.lemmas.Grind.{common_steps}
+use Rattle.std.proofs.Common.{◌≡◌, ℕ, ◌+◌, List, [], ◌∷◌, ◌++◌, Bool, false, refl, arith}
 use Rattle.std.specs.Prelude.{All, count_by, if◌then◌else◌}
 use Rattle.std.specs.List.{list_any}
-use Rattle.std.proofs.lemmas.List.Elements.{All-cons, All-nil, All-head, All-tail}
+use Rattle.std.proofs.lemmas.List.Elements.{All-head, All-tail}
 use Rattle.std.proofs.lemmas.List.Sums.{sum_by-cons, sum_by_push}
-use Rattle.std.proofs.lemmas.Bool.{cases_Bool, cond-true, cond-false, or_parts}
+use Rattle.std.proofs.lemmas.Bool.{cond-false}
 
 -- two facts on each of a list give a third
 pub all_both : {A : Type 0} (P Q R : A → Type 0) (xs : List A) → ((x : A) → P x → Q x → R x) → All P xs → All Q xs → All R xs
 all_both P Q R xs both ps qs = λ k d below. both _ (ps k d below) (qs k d below)
 
 pub none_passes : {A : Type 0} (p : A → Bool) (xs : List A) → list_any p xs ≡ false → All (λ x. p x ≡ false) xs
-none_passes p [] h = All-nil (λ x. p x ≡ false)
-none_passes p (x ∷ xs) h =
-    let parts : (p x ≡ false) × (list_any p xs ≡ false) = or_parts (p x) (list_any p xs) h in
-    All-cons (λ x. p x ≡ false) x xs parts.0 (none_passes p xs parts.1)
+none_passes p o h = grind (arith, common_steps)
 
 -- ---- counts
 
@@ -35,11 +33,4 @@ counted_none p (x ∷ xs) h =
     omega (arith, count-cons p x xs)
 
 pub none_counted : {A : Type 0} (p : A → Bool) (xs : List A) → count_by p xs ≡ 0 → All (λ x. p x ≡ false) xs
-none_counted p [] h = All-nil (λ x. p x ≡ false)
-none_counted p (x ∷ xs) h =
-    elim (cases_Bool (p x)) [
-      | inl passes ↦
-          let one : one_if (p x) ≡ 1 = cond-true (p x) 1 0 passes in
-          absurd (omega (arith, count-cons p x xs))
-      | inr fails ↦ All-cons (λ y. p y ≡ false) x xs fails (none_counted p xs (omega (arith, count-cons p x xs)))
-    ]
+none_counted p o h = grind (arith, common_steps)

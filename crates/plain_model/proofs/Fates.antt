@@ -1,17 +1,13 @@
 -- What is known of a request that is carried out, in whole or in part.
-use Rattle.std.proofs.Common.{◌≡◌, ℕ, ◌+◌, ◌≤◌, List, [], ◌∷◌, Bool, true, false, ◌&&◌, ◌||◌, Option, Some, None, is_some, length, cond, refl, sym, ap, ◌∙◌, ltb-false}
-use Rattle.std.specs.Bool.{then_some}
-use Rattle.std.proofs.lemmas.Bool.{both_ways, or_parts, cond_both}
-use Rattle.std.proofs.lemmas.List.{length-replicate}
+use Rattle.std.proofs.Common.{rules}
+use Rattle.std.proofs.Common.{arith}
+use Rattle.std.proofs.lemmas.Grind.{common_steps}
+use Rattle.std.proofs.Common.{◌≡◌, ℕ, ◌+◌, ◌≤◌, List, Bool, true, false, None, length}
 use Rattle.core_events.specs.Events.{Request}
 use Rattle.core_events.specs.declared.events.Work.{Work}
-use Rattle.core_events.specs.declared.events.Work.TheVariants.{Read, Write, Zero, Flush, Status}
-use Rattle.core_events.specs.declared.answers.Errno.{Errno}
-use Rattle.core_events.specs.declared.answers.Errno.TheVariants.{Perm, Io, Invalid, NoSpace, Shutdown}
 use Rattle.plain_model.specs.Machine.{Machine, size_of}
-use Rattle.plain_model.specs.Requests.{Place, HasBytes, is_write, is_read_only, is_nowhere, is_gone, is_drive_place, is_invalid, is_too_long, leaves_disk, longest, place_of, lacks_room, denial}
-use Rattle.plain_model.specs.Outcome.{RequestEnd, Well, Untouched, Torn, Trouble, Fate, Denied, Lost, Carried, CarriedInPart, fate_by, fate, bytes_of}
-use Rattle.plain_model.proofs.Startable.{AllNone, first_none, then_none}
+use Rattle.plain_model.specs.Requests.{HasBytes, is_write, is_invalid, denial}
+use Rattle.plain_model.specs.Outcome.{RequestEnd, Trouble, Fate, Denied, Lost, Carried, CarriedInPart, fate_by, fate, bytes_of}
 use Rattle.plain_model.specs.Step.{IsLeft}
 
 -- ---- valid requests
@@ -19,13 +15,7 @@ use Rattle.plain_model.specs.Step.{IsLeft}
 -- a request that isn't denied lies in the disk and isn't too long
 pub granted_is_valid : (r : Request) (m : Machine) → denial r m ≡ None → is_invalid r r.work m ≡ false
 unfolding denial
-granted_is_valid r m none =
-    let place : Place = place_of r.way m in
-    let tests : List (Option Errno) =
-    then_some (is_write r.work && is_read_only r.way m) Perm ∷ then_some (is_nowhere place || is_invalid r r.work m) Invalid ∷ then_some (is_gone place) Shutdown
-    ∷ then_some (is_drive_place place && is_some m.broken) Io ∷ [] in
-    let each : AllNone tests = first_none tests none in
-    (or_parts (is_nowhere place) (is_invalid r r.work m) (then_none (is_nowhere place || is_invalid r r.work m) Invalid each.1.0)).1
+granted_is_valid r m none = search rules
 
 -- what is written is as long as the range, and the range lies in the disk
 pub record IsWritable (r : Request) (m : Machine) : Type 0 where
@@ -34,13 +24,7 @@ pub record IsWritable (r : Request) (m : Machine) : Type 0 where
 
 valid_is_writable : (r : Request) (m : Machine) (work : Work) → is_invalid r work m ≡ false → HasBytes r work → is_write work ≡ true
     → (length (bytes_of r work) ≡ r.length) × (r.offset + r.length ≤ size_of m)
-valid_is_writable r m Read valid has writes = absurd (both_ways false refl writes)
-valid_is_writable r m (Write fua) valid has writes =
-    let parts : (leaves_disk r m ≡ false) × (is_too_long r ≡ false) = or_parts (leaves_disk r m) (is_too_long r) valid in
-    (has (ltb-false longest r.length parts.1), ltb-false (size_of m) (r.offset + r.length) parts.0)
-valid_is_writable r m (Zero fua no_hole) valid has writes = (length-replicate r.length 0, ltb-false (size_of m) (r.offset + r.length) valid)
-valid_is_writable r m Flush valid has writes = absurd (both_ways false refl writes)
-valid_is_writable r m (Status context one) valid has writes = absurd (both_ways false refl writes)
+valid_is_writable r m o valid has writes = grind (arith, common_steps)
 
 pub granted_is_writable : (r : Request) (m : Machine) → denial r m ≡ None → HasBytes r r.work → is_write r.work ≡ true → IsWritable r m
 granted_is_writable r m none has writes =
@@ -61,47 +45,14 @@ pub record IsGranted (t : Trouble) (r : Request) (m : Machine) (f : Fate) : Type
   pub none : denial r m ≡ None
   pub by : fate_by t.request r m ≡ f
 
-by_denial : (t : Trouble) (r : Request) (m : Machine) (found : Option Errno) (f : Fate) → elim found [ Some errno ↦ Denied errno | None ↦ fate_by t.request r m ] ≡ f
-    → is_denied f ≡ false → (found ≡ None) × (fate_by t.request r m ≡ f)
-by_denial t r m None f is fine = (refl, is)
-by_denial t r m (Some errno) f is fine = absurd (both_ways (is_denied f) fine (ap is_denied (sym is)))
-
 pub granted_fate : (t : Trouble) (r : Request) (m : Machine) (f : Fate) → fate t r m ≡ f → is_denied f ≡ false → IsGranted t r m f
 unfolding fate
-granted_fate t r m f is fine =
-    let parts : (denial r m ≡ None) × (fate_by t.request r m ≡ f) = by_denial t r m (denial r m) f is fine in
-    record { none = parts.0; by = parts.1 }
+granted_fate t r m f is fine = search rules
 
 -- a request that met a fault while it was carried out was a write, and left as many bytes as it wrote
 pub record HasTorn (r : Request) (left : List ℕ) : Type 0 where
   pub writes : is_write r.work ≡ true
   pub long : length left ≡ length (bytes_of r r.work)
 
-abbrev bytes_left : List ℕ → Fate → List ℕ
-bytes_left none (Denied errno) = none
-bytes_left none Lost = none
-bytes_left none Carried = none
-bytes_left none (CarriedInPart bytes) = bytes
-
-abbrev is_broken : Fate → Bool
-is_broken (Denied errno) = false
-is_broken Lost = false
-is_broken Carried = false
-is_broken (CarriedInPart bytes) = true
-
-not_broken : (f : Fate) (left : List ℕ) → is_broken f ≡ false → f ≡ CarriedInPart left → ⊥
-not_broken f left fine is = both_ways (is_broken f) fine (ap is_broken is)
-
 pub broken_has_torn : (end : RequestEnd) (r : Request) (m : Machine) (left : List ℕ) → IsLeft end r m → fate_by end r m ≡ CarriedInPart left → HasTorn r left
-broken_has_torn Untouched r m left torn = λ is. absurd (not_broken Lost left refl is)
-broken_has_torn Well r m left torn =
-    cond_both (lacks_room r m) (Denied NoSpace) Carried (λ (f : Fate). f ≡ CarriedInPart left → HasTorn r left)
-    (λ _ is. absurd (not_broken (Denied NoSpace) left refl is)) (λ _ is. absurd (not_broken Carried left refl is))
-broken_has_torn (Torn bytes) r m left torn =
-    let rest : Fate = cond (is_write r.work) (CarriedInPart bytes) Lost in
-    cond_both (lacks_room r m) (Denied NoSpace) rest (λ (f : Fate). f ≡ CarriedInPart left → HasTorn r left)
-    (λ _ is. absurd (not_broken (Denied NoSpace) left refl is))
-    (λ _.
-    cond_both (is_write r.work) (CarriedInPart bytes) Lost (λ (f : Fate). f ≡ CarriedInPart left → HasTorn r left)
-    (λ writes is. record { writes = writes; long = sym (ap (λ (f : Fate). length (bytes_left bytes f)) is) ∙ torn.long })
-    (λ _ is. absurd (not_broken Lost left refl is)))
+broken_has_torn o r m left torn = grind (arith, common_steps)

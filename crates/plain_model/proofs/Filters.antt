@@ -1,10 +1,11 @@
 -- Lists of which elements are left out: what filters keep of orders and counts.
-use Rattle.std.proofs.Common.{◌≡◌, ℕ, zero, suc, ◌+◌, ◌<◌, ◌&&◌, List, [], ◌∷◌, ◌++◌, length, map, filter, set, get_or, swap, count_by, cond, Bool, true, false, not, IsPermutation, refl, sym, ap, ◌∙◌, inl, inr, arith}
+use Rattle.std.proofs.Common.{rules}
+use Rattle.std.proofs.lemmas.Grind.{common_steps}
+use Rattle.std.proofs.Common.{◌≡◌, ℕ, zero, suc, ◌<◌, ◌&&◌, List, [], ◌∷◌, ◌++◌, length, map, filter, set, get_or, swap, count_by, Bool, not, IsPermutation, refl, inl, inr, arith}
 use Rattle.std.proofs.lemmas.Bool.{cases_Bool}
 use Rattle.std.proofs.lemmas.List.Filters.{sum_by-filter_both}
 use Rattle.std.proofs.lemmas.List.Sorted.{IsPermutation-refl, IsPermutation-cons, IsPermutation-middle, IsPermutation-trans, IsPermutation-keeps}
 use Rattle.std.proofs.lemmas.List.Sums.{sum_by-append}
-use Rattle.plain_model.proofs.Counting.{one_if, count-cons}
 
 -- ---- permutations
 
@@ -39,8 +40,7 @@ module _ {X : Type 0} (p : X → Bool) where
   exchanged d (x ∷ l) zero zero low high = IsPermutation-refl (filter p (x ∷ l))
   exchanged d (x ∷ l) zero (suc j) low high = with_first x d l j (omega (arith, high))
   exchanged d (x ∷ l) (suc i) zero low high = with_first x d l i (omega (arith, low))
-  exchanged d (x ∷ l) (suc i) (suc j) low high =
-      one_more x l (set (set l i (get_or l j d)) j (get_or l i d)) (exchanged d l i j (omega (arith, low)) (omega (arith, high)))
+  exchanged d (x ∷ l) (suc i) (suc j) low high = grind (arith, common_steps, exchanged d l i j (omega (arith, low)) (omega (arith, high)), one_more)
 
   swapped : (l : List X) (i j : ℕ) → i < length l → j < length l → IsPermutation (filter p l) (filter p (swap l i j))
   swapped [] i j low high = absurd (omega (arith, low))
@@ -56,39 +56,18 @@ module _ {X : Type 0} (p : X → Bool) where
 
 pub filter-map : {X Y : Type 0} (p : Y → Bool) (f : X → Y) (xs : List X) → filter p (map f xs) ≡ map f (filter (λ x. p (f x)) xs)
 filter-map p f [] = refl
-filter-map {X} {Y} p f (x ∷ xs) = elim (cases_Bool (p (f x))) [
-  | inl kept ↦ rw kept (ap (λ (ys : List Y). f x ∷ ys) (filter-map p f xs))
-  | inr dropped ↦ rw dropped (filter-map p f xs)
-]
+filter-map {X} {Y} p f (x ∷ xs) = search (rules, filter-map p f xs)
 
 -- a test that is the two others together, after the one of them
 pub filter_under : {X : Type 0} (q t u : X → Bool) → ((x : X) → u x ≡ (q x && t x)) → (xs : List X) → filter u (filter q xs) ≡ filter q (filter t xs)
 filter_under q t u both [] = refl
-filter_under {X} q t u both (x ∷ xs) = elim (cases_Bool (q x)) [
-  | inl one ↦ elim (cases_Bool (t x)) [
-    | inl other ↦
-        let here : u x ≡ true = both x ∙ rw (one, other) refl in
-        rw (one, other, here, one) (ap (λ (ys : List X). x ∷ ys) (filter_under q t u both xs))
-    | inr other ↦
-        let here : u x ≡ false = both x ∙ rw (one, other) refl in
-        rw (one, other, here) (filter_under q t u both xs)
-  ]
-  | inr one ↦ elim (cases_Bool (t x)) [
-    | inl other ↦ rw (one, other, one) (filter_under q t u both xs)
-    | inr other ↦ rw (one, other) (filter_under q t u both xs)
-  ]
-]
+filter_under {X} q t u both (x ∷ xs) = search (rules, filter_under q t u both xs)
 
 -- ---- counts
 
 pub count_by-map : {X Y : Type 0} (p : Y → Bool) (q : X → Bool) (f : X → Y) → ((x : X) → p (f x) ≡ q x) → (xs : List X) → count_by p (map f xs) ≡ count_by q xs
-count_by-map p q f same [] = refl
-count_by-map p q f same (x ∷ xs) =
-    count-cons p (f x) (map f xs) ∙ ap (λ (b : Bool). one_if b + count_by p (map f xs)) (same x)
-    ∙ ap (λ (n : ℕ). one_if (q x) + n) (count_by-map p q f same xs) ∙ sym (count-cons q x xs)
+count_by-map p q f same o = grind (arith, common_steps)
 
 -- the elements that pass a test, and then those that don't, are all
 pub count_parted : {X : Type 0} (p q : X → Bool) (xs : List X) → count_by p (filter q xs ++ filter (λ (x : X). not (q x)) xs) ≡ count_by p xs
-count_parted {X} p q xs =
-    sum_by-append (λ (y : X). cond (p y) 1 0) (filter q xs) (filter (λ (x : X). not (q x)) xs)
-    ∙ sum_by-filter_both q (λ (x : X). not (q x)) (λ x. refl) (λ (y : X). cond (p y) 1 0) xs
+count_parted {X} p q xs = search (rules, sum_by-append, sum_by-filter_both)

@@ -1,6 +1,7 @@
 -- A job that starts takes its bitmap into use.
+use Rattle.std.proofs.lemmas.Grind.{common_steps}
 use Rattle.std.proofs.Common.{◌≡◌, ℕ, ◌+◌, ◌≤◌, List, [], ◌∷◌, ◌++◌, true, false, refl, sym, ap, subst, ◌∙◌, arith}
-use Rattle.std.specs.Prelude.{Option, Some, None, count_by, if◌then◌else◌, bytes_eq}
+use Rattle.std.specs.Prelude.{Option, Some, count_by, if◌then◌else◌, bytes_eq}
 use Rattle.std.proofs.lemmas.List.Elements.{All-map, All-push, All-weaker}
 use Rattle.std.proofs.lemmas.Bool.{both_ways, cond_both, cond-false, cond-true}
 use Rattle.span_algebra.specs.declared.points.Point.{Point}
@@ -16,36 +17,15 @@ use Rattle.bitmap_model.proofs.TrueSpans.{frozen_keeps_true}
 use Rattle.bitmap_model.proofs.Recorded.{frozen_keeps_recorded}
 use Rattle.plain_model.specs.History.{History, timeline_of}
 use Rattle.plain_model.specs.Jobs.{Job}
-use Rattle.plain_model.specs.Sound.{IsSoundBitmap, uses, is_own, IsUsedOnce, SuccessorHolds, HasItsBitmap, AreUsers}
+use Rattle.plain_model.specs.Sound.{IsSoundBitmap, uses, is_own, IsUsedOnce, SuccessorHolds, HasItsBitmap}
 use Rattle.plain_model.proofs.Counting.{one_if, count-push}
 use Rattle.plain_model.proofs.Users.{others_kept, idle_unused}
 use Rattle.plain_model.proofs.ChangedBitmaps.{AreKept}
 
 pub frozen_sound : (t : Timeline) (b : BitmapState) → is_busy b ≡ false → b.inconsistent ≡ false → IsSoundBitmap t b → IsSoundBitmap t (when_frozen b)
-frozen_sound t b idle consistent s = record {
-  name_is = s.name_is;
-  shape = frozen_keeps_shape t.start b s.shape;
-  span_is = frozen_keeps_true t b idle s.span_is;
-  recorded = frozen_keeps_recorded b s.recorded;
-  blank = λ wrong. absurd (both_ways b.inconsistent consistent wrong);
-  kept = s.kept;
-}
+frozen_sound t b idle consistent s = grind (arith, common_steps, frozen_keeps_shape, frozen_keeps_true, frozen_keeps_recorded, both_ways)
 
 -- ---- a job without a bitmap
-
-unused_more : (jobs : List Job) (j : Job) (b : BitmapState) → j.bitmap ≡ None → IsUsedOnce jobs b → IsUsedOnce (jobs ++ j ∷ []) b
-unused_more jobs j b free once =
-    let none : one_if (uses b.name j) ≡ 0 = ap (λ (own : Option (List ℕ)). one_if (is_own b.name own)) free in
-    count-push (uses b.name) jobs j ∙ ap (λ (n : ℕ). count_by (uses b.name) jobs + n) none ∙ zero_more (count_by (uses b.name) jobs) ∙ once
-  where
-    zero_more : (n : ℕ) → n + 0 ≡ n
-    zero_more n = omega arith
-
-pub users_with_free : (h : History) (jobs : List Job) (j : Job) (bs : List BitmapState) → j.bitmap ≡ None → AreUsers h jobs bs → AreUsers h (jobs ++ j ∷ []) bs
-users_with_free h jobs j bs free s = record {
-  once = All-weaker (IsUsedOnce jobs) (IsUsedOnce (jobs ++ j ∷ [])) (λ b once. unused_more jobs j b free once) bs s.once;
-  there = All-push (λ (i : Job). HasItsBitmap h bs i i.bitmap) jobs j s.there (subst (HasItsBitmap h bs j) (sym free) tt);
-}
 
 -- ---- a job with a bitmap
 

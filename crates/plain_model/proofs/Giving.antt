@@ -1,12 +1,14 @@
 -- What becomes of the bitmaps of jobs that leave.
-use Rattle.std.proofs.Common.{◌≡◌, ◌+◌, List, [], ◌∷◌, ◌++◌, Bool, true, false, not, Option, Some, None, is_some, IsTrue, All, filter, count_by, get_or, bytes_eq, refl, sym, ap, subst, ◌∙◌, inl, inr, arith, ℕ}
-use Rattle.std.proofs.lemmas.Bool.{cases_Bool, both_ways, cond-true, cond-false, cond_both}
+use Rattle.std.proofs.Common.{rules}
+use Rattle.std.proofs.lemmas.Grind.{common_steps}
+use Rattle.std.proofs.Common.{◌≡◌, List, [], ◌∷◌, ◌++◌, Bool, true, false, not, Option, Some, None, IsTrue, All, filter, count_by, get_or, bytes_eq, refl, sym, ap, subst, ◌∙◌, arith, ℕ}
+use Rattle.std.proofs.lemmas.Bool.{both_ways, cond-false, cond_both}
 use Rattle.std.proofs.lemmas.List.Elements.{All-head, All-tail, All-map, All-weaker, All-append, All-filter}
 use Rattle.span_algebra.specs.declared.points.Point.{Point}
 use Rattle.span_algebra.specs.Timelines.{stands}
 use Rattle.bitmap_model.specs.Bitmap.{BitmapState, is_busy, when_abdicated, when_reclaimed}
 use Rattle.bitmap_model.specs.BitmapLaws.{IsBlank}
-use Rattle.bitmap_model.specs.Bitmaps.{named, is_named, changed}
+use Rattle.bitmap_model.specs.Bitmaps.{named, changed}
 use Rattle.bitmap_model.proofs.Lists.{same_bytes, same_bytes-itself, same_bytes-back, named_name, named_all, changed_all_at, changed_apart, changed_length, changed_other, change_if}
 use Rattle.bitmap_model.proofs.Recorded.{abdicated_keeps_recorded, reclaimed_keeps_recorded}
 use Rattle.bitmap_model.proofs.Shapes.{abdicated_keeps_shape, reclaimed_keeps_shape}
@@ -17,7 +19,7 @@ use Rattle.plain_model.specs.History.{History, timeline_of}
 use Rattle.plain_model.specs.Jobs.{Job}
 use Rattle.plain_model.specs.Ending.{given_back, by_mode, completed, change_own, change_bitmaps}
 use Rattle.plain_model.specs.Sound.{IsSoundBitmap, AreSoundBitmaps, is_own, uses, IsUsedOnce, SuccessorHolds, HasItsBitmap, AreUsers}
-use Rattle.plain_model.proofs.Counting.{one_if, count-cons, none_counted}
+use Rattle.plain_model.proofs.Counting.{none_counted}
 use Rattle.plain_model.proofs.Filters.{count_parted}
 
 -- ---- what a change at the end of a job has to keep
@@ -31,14 +33,7 @@ pub record IsEnding (h : History) (change : Job → BitmapState → BitmapState)
 
 pub reclaimed_is_sound : (h : History) (b : BitmapState) → b.inconsistent ≡ false → IsSoundBitmap (timeline_of h) b
     → IsSoundBitmap (timeline_of h) (when_reclaimed b)
-reclaimed_is_sound h b consistent s = record {
-  name_is = s.name_is;
-  shape = reclaimed_keeps_shape (timeline_of h).start b s.shape;
-  span_is = reclaimed_keeps_true (timeline_of h) (timeline_of h).start b s.shape s.span_is;
-  recorded = reclaimed_keeps_recorded b s.recorded;
-  blank = λ inconsistent. absurd (both_ways b.inconsistent consistent inconsistent);
-  kept = s.kept;
-}
+reclaimed_is_sound h b consistent s = grind (arith, common_steps, reclaimed_keeps_shape, reclaimed_keeps_true, reclaimed_keeps_recorded, both_ways)
 
 pub abdicated_is_sound : (h : History) (p : Point) (b : BitmapState) → IsTrue (stands p (timeline_of h)) → SuccessorHolds h p (Some b) → b.inconsistent ≡ false
     → IsSoundBitmap (timeline_of h) b → IsSoundBitmap (timeline_of h) (when_abdicated p b)
@@ -59,12 +54,10 @@ given_back_is_ending h = record {
 }
 
 mode_name : (mode : Mode) (j : Job) (b : BitmapState) → (by_mode mode j b).name ≡ b.name
-mode_name OnSuccess j b = refl
-mode_name Never j b = refl
+mode_name o j b = grind (arith, common_steps)
 
 mode_free : (mode : Mode) (j : Job) (b : BitmapState) → is_busy (by_mode mode j b) ≡ false
-mode_free OnSuccess j b = refl
-mode_free Never j b = refl
+mode_free o j b = grind (arith, common_steps)
 
 mode_sound : (h : History) (mode : Mode) (j : Job) (b : BitmapState) → IsTrue (stands j.point (timeline_of h)) → SuccessorHolds h j.point (Some b)
     → b.inconsistent ≡ false → IsSoundBitmap (timeline_of h) b → IsSoundBitmap (timeline_of h) (by_mode mode j b)
@@ -83,39 +76,19 @@ completed_is_ending h = record {
 -- the job that uses a bitmap finds it
 pub found_bitmap : (h : History) (p : Point) (found : Option BitmapState) → SuccessorHolds h p found
     → (b : BitmapState) × (found ≡ Some b) × SuccessorHolds h p (Some b)
-found_bitmap h p None holds = absurd holds
-found_bitmap h p (Some b) holds = (b, refl, holds)
+found_bitmap h p o holds = grind (arith, common_steps)
 
 -- a bitmap that is used is busy, and consistent
 pub busy_is_consistent : (b : BitmapState) → is_busy b ≡ true → (IsTrue b.inconsistent → IsBlank b) → b.inconsistent ≡ false
-busy_is_consistent b busy blank = elim (cases_Bool b.inconsistent) [
-  | inl inconsistent ↦ absurd (both_ways (is_busy b) (ap (λ (s : Option _). is_some s) (blank inconsistent).free) busy)
-  | inr consistent ↦ consistent
-]
+busy_is_consistent b busy blank = search rules
 
 -- where one more job uses a bitmap, it is busy, and no other job uses it
 pub used_by_first : (j : Job) (jobs : List Job) (b : BitmapState) → uses b.name j ≡ true → IsUsedOnce (j ∷ jobs) b
     → (is_busy b ≡ true) × (count_by (uses b.name) jobs ≡ 0)
-used_by_first j jobs b own once =
-    let one : one_if (uses b.name j) ≡ 1 = cond-true (uses b.name j) 1 0 own in
-    let sum : count_by (uses b.name) (j ∷ jobs) ≡ one_if (uses b.name j) + count_by (uses b.name) jobs = count-cons (uses b.name) j jobs in
-    elim (cases_Bool (is_busy b)) [
-      | inl busy ↦
-          let most : one_if (is_busy b) ≡ 1 = cond-true (is_busy b) 1 0 busy in
-          let e : count_by (uses b.name) (j ∷ jobs) ≡ one_if (is_busy b) = once in
-          (busy, omega arith)
-      | inr idle ↦
-          let most : one_if (is_busy b) ≡ 0 = cond-false (is_busy b) 1 0 idle in
-          let e : count_by (uses b.name) (j ∷ jobs) ≡ one_if (is_busy b) = once in
-          absurd (omega arith)
-    ]
+used_by_first j jobs b own once = grind (arith, common_steps)
 
 pub used_by_others : (j : Job) (jobs : List Job) (b : BitmapState) → uses b.name j ≡ false → IsUsedOnce (j ∷ jobs) b → IsUsedOnce jobs b
-used_by_others j jobs b other once =
-    let none : one_if (uses b.name j) ≡ 0 = cond-false (uses b.name j) 1 0 other in
-    let sum : count_by (uses b.name) (j ∷ jobs) ≡ one_if (uses b.name j) + count_by (uses b.name) jobs = count-cons (uses b.name) j jobs in
-    let e : count_by (uses b.name) (j ∷ jobs) ≡ one_if (is_busy b) = once in
-    omega arith
+used_by_others j jobs b other once = search rules
 
 -- the bitmaps are sound, and used by these jobs
 pub record AreLeft (h : History) (jobs : List Job) (bs : List BitmapState) : Type 0 where
@@ -127,21 +100,11 @@ module _ (h : History) (change : Job → BitmapState → BitmapState) (ending : 
   own_uses c = ap (is_own c.name) is
 
   own_once : (c : BitmapState) → IsUsedOnce (j ∷ jobs) c → IsUsedOnce jobs (change_if (change j) name c)
-  own_once c once =
-      cond_both (is_named name c) (change j c) c (IsUsedOnce jobs)
-      (λ same.
-      let own : uses c.name j ≡ true = own_uses c ∙ ap (λ (n : List ℕ). bytes_eq n name) (sym (same_bytes name c.name same)) ∙ same_bytes-itself name in
-      ap (λ (n : List ℕ). count_by (uses n) jobs) (ending.name j c) ∙ (used_by_first j jobs c own once).1
-      ∙ sym (cond-false {A = ℕ} (is_busy (change j c)) 1 0 (ending.free j c)))
-      (λ other. used_by_others j jobs c (own_uses c ∙ same_bytes-back name c.name other) once)
+  own_once c once = grind (arith, common_steps, cond_both, own_uses, bytes_eq, same_bytes, same_bytes-itself, used_by_first, cond-false, used_by_others, same_bytes-back)
 
   other_there : (bs : List BitmapState) (i : Job) (own : Option (List ℕ)) → is_own name own ≡ false → HasItsBitmap h bs i own
       → HasItsBitmap h (changed (change j) name bs) i own
-  other_there bs i None unused holds = tt
-  other_there bs i (Some other) unused holds =
-      subst (SuccessorHolds h i.point)
-      (sym (changed_other (change j) name other bs (λ same. both_ways (bytes_eq name other) unused (ap (bytes_eq name) same ∙ same_bytes-itself name)) (ending.name j)))
-      holds
+  other_there bs i o unused holds = grind (arith, common_steps, changed_other, both_ways, bytes_eq, same_bytes-itself)
 
   own_changed : (bs : List BitmapState) → IsTrue (stands j.point (timeline_of h)) → AreSoundBitmaps (timeline_of h) bs → AreUsers h (j ∷ jobs) bs
       → AreLeft h jobs (changed (change j) name bs)

@@ -1,15 +1,15 @@
 -- A guest request keeps a state sound.
-use Rattle.std.proofs.Common.{◌≡◌, ℕ, ◌+◌, ◌≤◌, List, Bool, All, length, map, refl, ◌∙◌, arith}
+use Rattle.std.proofs.Common.{rules}
+use Rattle.std.proofs.Common.{◌≡◌, ℕ, ◌+◌, ◌≤◌, List, Bool, All, length, refl, ◌∙◌}
 use Rattle.std.proofs.lemmas.Bool.{cond_both}
 use Rattle.span_algebra.specs.Timelines.{Extent}
 use Rattle.core_events.specs.Events.{Request}
 use Rattle.core_events.specs.declared.answers.Errno.TheVariants.{Io}
 use Rattle.core_events.specs.Answers.{Reply, Done, Fault}
-use Rattle.plain_model.specs.Jobs.{Job}
 use Rattle.plain_model.specs.Machine.{Machine, size_of, runners}
 use Rattle.plain_model.specs.Requests.{HasBytes, is_write, range_of, granted}
-use Rattle.plain_model.specs.Ending.{Noted, given_back, leave, after_break}
-use Rattle.plain_model.specs.Outcome.{Trouble, Outcome, answered, with_reply, tried_before, has_stopped, after_copying, after_writing, Fate, Denied, Lost, Carried, CarriedInPart, bytes_of, fate, by_fate, breaks_by, or_break, guest}
+use Rattle.plain_model.specs.Ending.{leave}
+use Rattle.plain_model.specs.Outcome.{Trouble, Outcome, answered, after_copying, after_writing, Fate, Denied, Lost, Carried, CarriedInPart, bytes_of, fate, by_fate, or_break, guest}
 use Rattle.plain_model.specs.Step.{IsLeft}
 use Rattle.plain_model.specs.Sound.{AreNumbers, IsSound}
 use Rattle.plain_model.proofs.Leaving.{leaving_numbers, after_break_is_sound}
@@ -22,33 +22,18 @@ use Rattle.plain_model.proofs.Fates.{IsWritable, granted_is_writable, IsGranted,
 
 copying_numbers : (t : Trouble) (e : Extent) (m : Machine) → AreNumbers m → AreNumbers (after_copying t e m).machine
 unfolding after_copying
-copying_numbers t e m n =
-    let f : Job → Job = λ j. (tried_before t e (size_of m) j).job in
-    let served : Machine = record m { jobs = map f m.jobs; views = map f m.views } in
-    let same : AreNumbers served = record {
-      serials = n.serials;
-      events = n.events;
-      broken_at = n.broken_at;
-      gone_at = n.gone_at;
-    } in
-    leaving_numbers given_back (has_stopped (map (tried_before t e (size_of m)) (runners m))) served same
+copying_numbers t e m n = search (rules, leaving_numbers)
 
 copying_is_sound : (t : Trouble) (e : Extent) (m : Machine) → IsSound m → IsSound (after_copying t e m).machine
 unfolding after_copying leave
-copying_is_sound t e m s = record {
-  history_is = s.history_is;
-  next = s.next;
-  state = after_copying_keeps m.history t e m s.state;
-  numbers = copying_numbers t e m s.numbers;
-}
+copying_is_sound t e m s = search (rules, after_copying_keeps, copying_numbers)
 
 copying_is_clear : (t : Trouble) (e : Extent) (m : Machine) → IsSound m → All (IsClear e) (runners (after_copying t e m).machine)
 copying_is_clear t e m s = after_copying_is_clear m.history t e m s.state
 
 pub writing_is_sound : (t : Trouble) (e : Extent) (bytes : List ℕ) (reply : Reply) (m : Machine) → length bytes ≡ e.size → e.at + e.size ≤ size_of m → IsSound m
     → IsSound (after_writing t e bytes reply m).machine
-writing_is_sound t e bytes reply m long inside s =
-    marking_is_sound e bytes (after_copying t e m).machine long (omega (arith, inside, copying_size t e m)) (copying_is_clear t e m s) (copying_is_sound t e m s)
+writing_is_sound t e bytes reply m long inside s = search (rules, marking_is_sound, copying_size, copying_is_clear, copying_is_sound)
 
 -- ---- a request
 
@@ -75,11 +60,8 @@ by_fate_is_sound t r m Carried is has torn s = carried_is_sound t r m has (grant
 by_fate_is_sound t r m (CarriedInPart left) is has torn s = broken_is_sound t r m left has torn (granted_fate t r m (CarriedInPart left) is refl) s
 
 or_break_is_sound : (breaks : Bool) (o : Outcome) → IsSound o.machine → IsSound (or_break breaks o).machine
-or_break_is_sound breaks o s =
-    let noted : Noted = record { machine = o.machine; notices = o.answer.notices } in
-    cond_both breaks (with_reply o.answer.reply (after_break noted)) o (λ (p : Outcome). IsSound p.machine) (λ _. after_break_is_sound noted s) (λ _. s)
+or_break_is_sound breaks o s = search (rules, cond_both, after_break_is_sound)
 
 pub guest_is_sound : (t : Trouble) (r : Request) (m : Machine) → HasBytes r r.work → IsLeft t.request r m → IsSound m → IsSound (guest t r m).machine
 unfolding guest
-guest_is_sound t r m has torn s =
-    or_break_is_sound (breaks_by (fate t r m) t r.work) (by_fate (fate t r m) t r m) (by_fate_is_sound t r m (fate t r m) refl has torn s)
+guest_is_sound t r m has torn s = search (rules, or_break_is_sound, by_fate_is_sound)

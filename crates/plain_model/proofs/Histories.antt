@@ -1,5 +1,7 @@
 -- The disk that a history leads to.
-use Rattle.std.proofs.Common.{◌≡◌, ℕ, List, [], ◌∷◌, ◌++◌, length, map, refl, sym, subst, ◌∙◌}
+use Rattle.std.proofs.Common.{arith}
+use Rattle.std.proofs.lemmas.Grind.{common_steps}
+use Rattle.std.proofs.Common.{◌≡◌, ℕ, List, [], ◌∷◌, ◌++◌, length, map, refl}
 use Rattle.disk_model.specs.Files.{overlay}
 use Rattle.disk_model.proofs.Bytes.{length-overlay_inside}
 use Rattle.span_algebra.specs.Timelines.{LieInside}
@@ -12,9 +14,7 @@ after-append d (Reached p ∷ es) fs = after-append d es fs
 
 pub length-disk_after : (d : List ℕ) (es : List Entry) → LieInside (length d) (map without_bytes es) → length (disk_after d es) ≡ length d
 length-disk_after d [] h = refl
-length-disk_after d (Wrote at bytes ∷ es) h =
-    let same = length-overlay_inside d at bytes h.0 in
-    length-disk_after (overlay d at bytes) es (subst (λ (k : ℕ). LieInside k (map without_bytes es)) (sym same) h.1) ∙ same
+length-disk_after d (Wrote at bytes ∷ es) h = grind (arith, common_steps, length-disk_after (overlay d at bytes) es, length-overlay_inside)
 length-disk_after d (Reached p ∷ es) h = length-disk_after d es h
 
 pub length-now : (h : History) → StaysInside h → length (now h) ≡ length h.start

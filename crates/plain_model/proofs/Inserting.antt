@@ -1,4 +1,6 @@
 -- Lists that gain an element: in the middle, or at the end.
+use Rattle.std.proofs.Common.{arith}
+use Rattle.std.proofs.lemmas.Grind.{common_steps}
 use Rattle.std.proofs.Common.{◌≡◌, List, [], ◌∷◌, ◌++◌, Bool, false, refl, sym, ap, subst, ◌∙◌}
 use Rattle.std.specs.Prelude.{All, IsPermutation, filter, if◌then◌else◌}
 use Rattle.std.specs.List.{list_any}
@@ -6,7 +8,7 @@ use Rattle.std.proofs.lemmas.List.{append_assoc}
 use Rattle.std.proofs.lemmas.List.Elements.{All-cons, All-head, All-tail}
 use Rattle.std.proofs.lemmas.List.Folds.{list_any-append}
 use Rattle.std.proofs.lemmas.List.Sorted.{IsPermutation-sym, IsPermutation-trans, IsPermutation-middle, IsPermutation-to_front}
-use Rattle.std.proofs.lemmas.Bool.{or_parts, or_from}
+use Rattle.std.proofs.lemmas.Bool.{or_from}
 use Rattle.plain_model.specs.Sound.{Differ}
 
 -- ---- an element in the middle
@@ -17,17 +19,12 @@ all_insert P (a ∷ xs) ys x all here =
     All-cons P a ((xs ++ x ∷ []) ++ ys) (All-head P a (xs ++ ys) all) (all_insert P xs ys x (All-tail P a (xs ++ ys) all) here)
 
 pub none_insert : {A : Type 0} (p : A → Bool) (xs ys : List A) (x : A) → list_any p (xs ++ ys) ≡ false → p x ≡ false → list_any p ((xs ++ x ∷ []) ++ ys) ≡ false
-none_insert p [] ys x none here = or_from (p x) (list_any p ys) here none
-none_insert p (a ∷ xs) ys x none here =
-    let parts : (p a ≡ false) × (list_any p (xs ++ ys) ≡ false) = or_parts (p a) (list_any p (xs ++ ys)) none in
-    or_from (p a) (list_any p ((xs ++ x ∷ []) ++ ys)) parts.0 (none_insert p xs ys x parts.1 here)
+none_insert p o ys x none here = grind (arith, common_steps)
 
 pub differ_insert : {A : Type 0} (same : A → A → Bool) (xs ys : List A) (x : A) → ((a b : A) → same a b ≡ false → same b a ≡ false)
     → list_any (same x) (xs ++ ys) ≡ false → Differ same (xs ++ ys) → Differ same ((xs ++ x ∷ []) ++ ys)
 differ_insert same [] ys x flips free differ = (free, differ)
-differ_insert same (a ∷ xs) ys x flips free differ =
-    let parts : (same x a ≡ false) × (list_any (same x) (xs ++ ys) ≡ false) = or_parts (same x a) (list_any (same x) (xs ++ ys)) free in
-    (none_insert (same a) xs ys x differ.0 (flips x a parts.0), differ_insert same xs ys x flips parts.1 differ.1)
+differ_insert same (a ∷ xs) ys x flips free differ = grind (arith, common_steps, differ_insert same xs ys x flips)
 
 pub permutes_insert : {A : Type 0} (xs ys : List A) (x : A) → IsPermutation ((xs ++ x ∷ []) ++ ys) ((xs ++ ys) ++ x ∷ [])
 permutes_insert xs ys x =
@@ -43,9 +40,7 @@ none_push p xs x none here = list_any-append p xs (x ∷ []) ∙ or_from (list_a
 pub differ_push : {A : Type 0} (same : A → A → Bool) (xs : List A) (x : A) → ((a b : A) → same a b ≡ false → same b a ≡ false)
     → list_any (same x) xs ≡ false → Differ same xs → Differ same (xs ++ x ∷ [])
 differ_push same [] x flips free differ = (refl, tt)
-differ_push same (a ∷ xs) x flips free differ =
-    let parts : (same x a ≡ false) × (list_any (same x) xs ≡ false) = or_parts (same x a) (list_any (same x) xs) free in
-    (none_push (same a) xs x differ.0 (flips x a parts.0), differ_push same xs x flips parts.1 differ.1)
+differ_push same (a ∷ xs) x flips free differ = grind (arith, common_steps, differ_push same xs x flips)
 
 -- ---- filters
 

@@ -1,12 +1,14 @@
 -- A job or a view joins those of a state.
-use Rattle.std.proofs.Common.{◌≡◌, ℕ, ◌<◌, ◌≤◌, List, [], ◌∷◌, ◌++◌, length, map, Bool, true, false, refl, sym, ap, subst, ◌∙◌, arith}
+use Rattle.std.proofs.Common.{rules}
+use Rattle.std.proofs.lemmas.Grind.{common_steps}
+use Rattle.std.proofs.Common.{◌≡◌, ℕ, ◌<◌, ◌≤◌, List, [], ◌∷◌, ◌++◌, length, map, Bool, true, false, sym, ap, subst, ◌∙◌, arith}
 use Rattle.std.specs.Prelude.{All, IsPermutation, filter, bytes_eq, ◌||◌}
 use Rattle.std.specs.List.{list_any}
 use Rattle.std.proofs.lemmas.List.{append_assoc, append-nil, length-append, map-append}
 use Rattle.std.proofs.lemmas.List.Elements.{All-push, All-map, All-weaker, filter-append}
 use Rattle.std.proofs.lemmas.List.Folds.{list_any-append}
 use Rattle.std.proofs.lemmas.List.Sorted.{IsPermutation-refl, IsPermutation-trans, IsPermutation-map, IsPermutation-append_left, All-permutation}
-use Rattle.std.proofs.lemmas.Bool.{cond-true, cond-false, or_parts, or_from, or_left, or_right}
+use Rattle.std.proofs.lemmas.Bool.{cond-true, cond-false, or_parts, or_left, or_right}
 use Rattle.bitmap_model.proofs.Lists.{same_bytes-itself, same_bytes-back}
 use Rattle.script_model.specs.Recording.{is_drive}
 use Rattle.plain_model.specs.History.{History}
@@ -72,22 +74,14 @@ not_view jobs views id none = (or_parts (list_any (has_id id) jobs) (list_any (h
 
 pub order_with_job : (jobs views : List Job) (created : List (List ℕ)) (j : Job) → AreInOrder jobs views created → list_any (has_id j.id) (jobs ++ views) ≡ false
     → AreInOrder (jobs ++ j ∷ []) views (created ++ j.id ∷ [])
-order_with_job jobs views created j s free =
-    let is_view : List ℕ → Bool = λ (id : List ℕ). list_any (has_id id) views in record {
-      all = ids_push (jobs ++ views) ((jobs ++ j ∷ []) ++ views) j created (permutes_insert jobs views j) s.all;
-      in_order = filter-append is_view created (j.id ∷ [])
-          ∙ ap (λ (ids : List (List ℕ)). filter is_view created ++ ids) (cond-false (is_view j.id) (j.id ∷ []) [] (not_view jobs views j.id free))
-          ∙ append-nil (filter is_view created) ∙ s.in_order;
-    }
+order_with_job jobs views created j s free = search (rules, ids_push, permutes_insert, filter-append, cond-false, not_view, append-nil)
 
 or_nothing : (b c : Bool) → c ≡ false → (b || (c || false)) ≡ b
-or_nothing true c h = refl
-or_nothing false c h = or_from c false h refl
+or_nothing o c h = grind (arith, common_steps)
 
 -- for another id one more view changes no test
 other_id : (views : List Job) (j : Job) (id : List ℕ) → bytes_eq j.id id ≡ false → list_any (has_id id) (views ++ j ∷ []) ≡ list_any (has_id id) views
-other_id views j id other =
-    list_any-append (has_id id) views (j ∷ []) ∙ or_nothing (list_any (has_id id) views) (bytes_eq id j.id) (same_bytes-back j.id id other)
+other_id views j id other = search (rules, list_any-append, or_nothing, same_bytes-back)
 
 pub order_with_view : (jobs views : List Job) (created : List (List ℕ)) (j : Job) → AreInOrder jobs views created → list_any (has_id j.id) (jobs ++ views) ≡ false
     → AreInOrder jobs (views ++ j ∷ []) (created ++ j.id ∷ [])

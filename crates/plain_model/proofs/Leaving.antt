@@ -1,10 +1,11 @@
 -- Jobs and views that leave: the state stays sound.
+use Rattle.std.proofs.lemmas.Grind.{common_steps}
+use Rattle.std.proofs.Common.{rules}
 use Rattle.std.proofs.Common.{◌≡◌, ℕ, ◌≤◌, List, [], ◌∷◌, ◌++◌, Bool, true, not, ◌&&◌, Option, Some, None, IsTrue, All, IsPermutation, filter, map, length, refl, sym, ap, subst, ◌∙◌, arith}
 use Rattle.std.specs.List.{list_any}
 use Rattle.std.proofs.lemmas.List.Elements.{All-nil, All-cons, All-head, All-tail, All-map, All-weaker, All-append, All-filter, filter-append}
 use Rattle.std.proofs.lemmas.List.Sums.{length-filter, count_by-le-length}
 use Rattle.std.proofs.lemmas.Map.Views.{any-filter_same}
-use Rattle.std.proofs.lemmas.Option.{same_Some}
 use Rattle.span_algebra.specs.Timelines.{stands}
 use Rattle.bitmap_model.specs.Bitmap.{BitmapState}
 use Rattle.bitmap_model.proofs.Lists.{same_bytes}
@@ -45,8 +46,7 @@ staying_jobs h p jobs views s =
 -- the views that stay are those of the ids that stay
 staying_views : (stays : List ℕ → Bool) (views : List Job) (id : List ℕ)
     → list_any (has_id id) (filter (λ (j : Job). stays j.id) views) ≡ (stays id && list_any (has_id id) views)
-staying_views stays views id =
-    any-filter_same (has_id id) (λ (j : Job). stays j.id) (stays id) (λ j same. ap stays (sym (same_bytes id j.id same))) views
+staying_views stays views id = search (rules, any-filter_same, same_bytes)
 
 pub staying_order : (stays : List ℕ → Bool) (jobs views : List Job) (created : List (List ℕ)) → AreInOrder jobs views created
     → AreInOrder (filter (λ (j : Job). stays j.id) jobs) (filter (λ (j : Job). stays j.id) views) (filter stays created)
@@ -63,9 +63,6 @@ staying_order stays jobs views created s =
           ∙ ap (filter stays) s.in_order ∙ filter-map stays id_of views;
     }
 
-stay_none : (p : Job → Bool) (m : Machine) → runners m ≡ [] → filter p m.jobs ++ filter p m.views ≡ []
-stay_none p m none = sym (filter-append p m.jobs m.views) ∙ ap (filter p) none
-
 -- ---- leaving
 
 pub leaving_keeps : (h : History) (change : Job → BitmapState → BitmapState) → IsEnding h change → (leaves : List ℕ → Bool) (m : Machine) → IsSoundFor h m
@@ -80,16 +77,7 @@ leaving_keeps h change ending leaves m s =
     let left : AreLeft h (filter stays m.jobs) _ =
     all_given h change ending (filter goes m.jobs) (filter stays m.jobs) m.bitmaps (All-filter goes Drawn m.jobs drawn) s.bitmaps_are
     (parted_users h goes m.jobs m.bitmaps s.users) in
-    record {
-      sized = s.sized;
-      bitmaps_are = left.sound;
-      jobs_are = staying_jobs h stays m.jobs m.views s.jobs_are;
-      order = staying_order (λ id. not (leaves id)) m.jobs m.views m.created s.order;
-      users = left.users;
-      exports_are = s.exports_are;
-      store_shape = s.store_shape;
-      quiet = λ broken. stay_none stays m (s.quiet broken);
-    }
+    grind (arith, common_steps, staying_jobs h stays m.jobs m.views s.jobs_are, staying_order (λ id. not (leaves id)) m.jobs m.views m.created s.order)
 
 pub leaving_numbers : (change : Job → BitmapState → BitmapState) (leaves : List ℕ → Bool) (m : Machine) → AreNumbers m → AreNumbers (leave change leaves m)
 unfolding leave
@@ -106,12 +94,7 @@ leaving_numbers change leaves m n =
 pub leaving_is_sound : (change : Job → BitmapState → BitmapState) (leaves : List ℕ → Bool) (m : Machine) → IsEnding m.history change → IsSound m
     → IsSound (leave change leaves m)
 unfolding leave
-leaving_is_sound change leaves m ending s = record {
-  history_is = s.history_is;
-  next = s.next;
-  state = leaving_keeps m.history change ending leaves m s.state;
-  numbers = leaving_numbers change leaves m s.numbers;
-}
+leaving_is_sound change leaves m ending s = search (rules, leaving_keeps, leaving_numbers)
 
 -- ---- all leave
 
@@ -129,35 +112,14 @@ closed_is_sound m s = leaving_is_sound given_back (λ id. true) m (given_back_is
 
 -- a source without jobs and views may break
 pub broken_keeps : (h : History) (event : ℕ) (m : Machine) → runners m ≡ [] → IsSoundFor h m → IsSoundFor h (record m { broken = Some event })
-broken_keeps h event m none s = record {
-  sized = s.sized;
-  bitmaps_are = s.bitmaps_are;
-  jobs_are = s.jobs_are;
-  order = s.order;
-  users = s.users;
-  exports_are = s.exports_are;
-  store_shape = s.store_shape;
-  quiet = λ broken. none;
-}
+broken_keeps h event m none s = search rules
 
 pub broken_numbers : (m : Machine) → AreNumbers m → AreNumbers (record m { broken = Some m.event })
-broken_numbers m n = record {
-  serials = n.serials;
-  events = n.events;
-  broken_at = λ k is. let e : m.event ≡ k = same_Some m.event k is in omega arith;
-  gone_at = n.gone_at;
-}
+broken_numbers m n = search rules
 
 pub after_break_is_sound : (n : Noted) → IsSound n.machine → IsSound (after_break n).machine
 unfolding after_break leave
-after_break_is_sound n s =
-    let left : IsSound (all_left n.machine) = leaving_is_sound given_back (λ id. true) n.machine (given_back_is_ending n.machine.history) s in
-    record {
-      history_is = left.history_is;
-      next = left.next;
-      state = broken_keeps n.machine.history n.machine.event (all_left n.machine) (all_left_none n.machine) left.state;
-      numbers = broken_numbers (all_left n.machine) left.numbers;
-    }
+after_break_is_sound n s = search (rules, leaving_is_sound, given_back_is_ending, broken_keeps, all_left_none, broken_numbers)
 
 -- ---- one is cancelled
 

@@ -1,18 +1,18 @@
 -- Want of memory that no action meets has no effect: a command is answered as if memory sufficed, or refused for want of it.
-use Rattle.std.proofs.Common.{◌≡◌, ℕ, ◌+◌, Bool, true, false, refl, ap, List, [], ◌∷◌}
-use Rattle.std.specs.Prelude.{Option, Some, None, Result, Ok, Err, if◌then◌else◌, ◌==◌}
-use Rattle.std.proofs.lemmas.Bool.{cond_both}
+use Rattle.std.proofs.Common.{arith}
+use Rattle.std.proofs.lemmas.Grind.{common_steps}
+use Rattle.std.proofs.Common.{rules}
+use Rattle.std.proofs.Common.{◌≡◌, ℕ, ◌+◌, Bool, refl, List, [], ◌∷◌}
+use Rattle.std.specs.Prelude.{Option, None, Result, Ok, Err, if◌then◌else◌}
 use Rattle.span_algebra.specs.declared.points.Point.{Point}
 use Rattle.core_events.specs.declared.commands.Action.{Action}
 use Rattle.core_events.specs.declared.commands.Command.{Command}
 use Rattle.core_events.specs.declared.commands.Command.TheVariants.{Act, Transaction, JobCancel, QueryJobs, QueryNodes, ExportAdd, Quit}
 use Rattle.core_events.specs.declared.refusals.Refusal.{Refusal}
-use Rattle.core_events.specs.declared.refusals.Refusal.TheVariants.{OutOfMemory, SerialSpent}
-use Rattle.core_events.specs.Answers.{Refused, Jobs, Nodes, Done}
-use Rattle.plain_model.specs.Machine.{Machine, last_number, next_point}
-use Rattle.plain_model.specs.Actions.{Held, Hindrance, RefusedAt, is_at, act, fold_actions, with_point, transact}
-use Rattle.plain_model.specs.Queries.{job_infos, node_infos, export_refusal, with_export}
-use Rattle.plain_model.specs.Outcome.{Outcome, answered, number_in, after_transaction, after_cancel, unless_wanting, after_export, command}
+use Rattle.core_events.specs.declared.refusals.Refusal.TheVariants.{OutOfMemory}
+use Rattle.plain_model.specs.Machine.{Machine}
+use Rattle.plain_model.specs.Actions.{Held, Hindrance, RefusedAt, fold_actions, with_point, transact}
+use Rattle.plain_model.specs.Outcome.{Outcome, number_in, after_transaction, command}
 use Rattle.plain_model.specs.Laws.{IsForMemory}
 
 -- the actions behind one that was tried
@@ -41,43 +41,25 @@ IsForWant (Err r) = r.refusal ≡ OutOfMemory
 abbrev Sufficed : Result Machine RefusedAt → Result Machine RefusedAt → Type 0
 Sufficed result free = (IsForWant result → ⊥) → result ≡ free
 
--- so it is behind an action, if it is so from any machine
-sufficed-acted : (held : List ℕ → Held) (h : Hindrance) (p : Point) (k : ℕ) (actions : List Action) (result : Result Machine Refusal)
-    → ((next : Machine) → Sufficed (fold_actions held h p (k + 1) actions next) (fold_actions held (with_memory h) p (k + 1) actions next))
-    → Sufficed (acted held h p k actions result) (acted held (with_memory h) p k actions result)
-sufficed-acted held h p k actions (Ok next) more = more next
-sufficed-acted held h p k actions (Err refusal) more = λ none. refl
-
 -- so it is for a list of actions
 sufficed-fold : (held : List ℕ → Held) (h : Hindrance) (p : Point) (k : ℕ) (actions : List Action) (m : Machine)
     → Sufficed (fold_actions held h p k actions m) (fold_actions held (with_memory h) p k actions m)
 sufficed-fold held h p k [] m = λ none. refl
-sufficed-fold held h p k (a ∷ actions) m =
-    let free : Result Machine RefusedAt = acted held (with_memory h) p k actions (act held h.unread p a m) in
-    cond_both (is_at h.memory k) (Err (record { action = k; refusal = OutOfMemory })) (acted held h p k actions (act held h.unread p a m))
-    (λ (result : Result Machine RefusedAt). Sufficed result free) (λ _ none. absurd (none refl))
-    (λ _. sufficed-acted held h p k actions (act held h.unread p a m) (sufficed-fold held h p (k + 1) actions))
+sufficed-fold held h p k (a ∷ actions) m = search (rules, sufficed-fold held h p (k + 1) actions)
 
 -- so it is where the point is drawn
 sufficed-drawn : (p : Point) (result free : Result Machine RefusedAt) → Sufficed result free → Sufficed (with_drawn p result) (with_drawn p free)
-sufficed-drawn p (Ok next) free same = λ none. ap (with_drawn p) (same none)
-sufficed-drawn p (Err r) free same = λ none. ap (with_drawn p) (same none)
+sufficed-drawn p o free same = grind (arith, common_steps)
 
 -- so it is behind a test
 sufficed-unless : (b : Bool) (spent result free : Result Machine RefusedAt) → Sufficed result free → Sufficed (if b then spent else result) (if b then spent else free)
-sufficed-unless true spent result free same = λ none. refl
-sufficed-unless false spent result free same = same
+sufficed-unless o spent result free same = grind (arith, common_steps)
 
 -- so it is for a whole transaction
 sufficed-transact : (held : List ℕ → Held) (h : Hindrance) (actions : List Action) (m : Machine)
     → Sufficed (transact held h actions m) (transact held (with_memory h) actions m)
 unfolding transact
-sufficed-transact held h actions m =
-    let p : Point = next_point m in
-    let result : Result Machine RefusedAt = fold_actions held h p 0 actions m in
-    let free : Result Machine RefusedAt = fold_actions held (with_memory h) p 0 actions m in
-    sufficed-unless (m.serial == last_number) (Err (record { action = 0; refusal = SerialSpent })) (with_drawn p result) (with_drawn p free)
-    (sufficed-drawn p result free (sufficed-fold held h p 0 actions m))
+sufficed-transact held h actions m = search (rules, sufficed-unless, sufficed-drawn, sufficed-fold)
 
 -- ---- of commands
 
@@ -88,15 +70,7 @@ IsFreeOf o free = (IsForMemory o.answer → ⊥) → o ≡ free
 -- so is that of a transaction
 free-transaction : (number : ℕ → Option ℕ) (m : Machine) (result free : Result Machine RefusedAt) → Sufficed result free
     → IsFreeOf (after_transaction number result m) (after_transaction number free m)
-free-transaction number m (Ok next) free same = λ none. ap (λ (r : Result Machine RefusedAt). after_transaction number r m) (same (λ wanting. wanting))
-free-transaction number m (Err r) free same =
-    λ none. ap (λ (r : Result Machine RefusedAt). after_transaction number r m)
-    (same (λ wanting. none (number r.action, ap (λ (refusal : Refusal). Refused (number r.action) refusal) wanting)))
-
--- so is that of a command of its own
-free-unless : (m : Machine) (memory : Option ℕ) (o : Outcome) → IsFreeOf (unless_wanting memory o m) o
-free-unless m None o = λ none. refl
-free-unless m (Some k) o = λ none. absurd (none (None, refl))
+free-transaction number m o free same = grind (arith, common_steps)
 
 -- a command is answered as if memory sufficed, unless it is refused for want of it
 pub free-command : (held : List ℕ → Held) (h : Hindrance) (c : Command) (m : Machine) → (IsForMemory (command held h c m).answer → ⊥)
@@ -104,8 +78,8 @@ pub free-command : (held : List ℕ → Held) (h : Hindrance) (c : Command) (m :
 unfolding command
 free-command held h (Act action) m = free-transaction (λ k. None) m (transact held h (action ∷ []) m) _ (sufficed-transact held h (action ∷ []) m)
 free-command held h (Transaction actions) m = free-transaction (number_in actions) m (transact held h actions m) _ (sufficed-transact held h actions m)
-free-command held h (JobCancel id) m = free-unless m h.memory (after_cancel id m)
-free-command held h QueryJobs m = free-unless m h.memory (answered (Jobs (job_infos m)) m)
-free-command held h QueryNodes m = free-unless m h.memory (answered (Nodes (node_infos m)) m)
-free-command held h (ExportAdd args) m = free-unless m h.memory (after_export (export_refusal args m) (answered Done (with_export args m)) m)
-free-command held h Quit m = free-unless m h.memory (answered Done (record m { ended = true }))
+free-command held h (JobCancel id) m = search rules
+free-command held h QueryJobs m = search rules
+free-command held h QueryNodes m = search rules
+free-command held h (ExportAdd args) m = search rules
+free-command held h Quit m = search rules

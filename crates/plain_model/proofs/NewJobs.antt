@@ -1,16 +1,17 @@
 -- A job that starts at the last point is sound.
-use Rattle.std.proofs.Common.{◌≡◌, ℕ, ◌/◌, ◌<◌, List, length, Bool, true, false, refl, sym, ap, subst, ◌∙◌}
+use Rattle.std.proofs.Common.{rules}
+use Rattle.std.proofs.Common.{arith}
+use Rattle.std.proofs.lemmas.Grind.{common_steps}
+use Rattle.std.proofs.Common.{◌≡◌, ℕ, ◌/◌, ◌<◌, List, length, Bool, true, false, sym, ap, subst, ◌∙◌}
 use Rattle.std.specs.Prelude.{Option, Some, None, slice_index}
 use Rattle.std.proofs.lemmas.List.{length-replicate, get_or-replicate}
 use Rattle.std.proofs.lemmas.List.Elements.{All-weaker}
-use Rattle.std.proofs.lemmas.Bool.{both_ways, cond_both}
+use Rattle.std.proofs.lemmas.Bool.{both_ways}
 use Rattle.span_algebra.specs.declared.points.Point.{Point}
-use Rattle.span_algebra.specs.declared.points.End.TheVariants.{Now, At}
+use Rattle.span_algebra.specs.declared.points.End.TheVariants.{At}
 use Rattle.span_algebra.specs.declared.spans.Span.{Span}
-use Rattle.span_algebra.specs.declared.spans.Span.TheVariants.{Unknown, Known}
 use Rattle.span_algebra.specs.declared.spans.Base.{Base}
 use Rattle.span_algebra.specs.declared.spans.Base.TheVariants.{Whole, Since, Loose}
-use Rattle.span_algebra.specs.Points.{same_point}
 use Rattle.span_algebra.specs.Timelines.{Timeline, with_point, stands, IsRising, touched}
 use Rattle.span_algebra.specs.Spans.{that_pass, AllBytes, AllTouched, SpanHolds, base_of}
 use Rattle.bitmap_model.specs.Granules.{IsAllowed, granules_in, is_in, none_of, merged}
@@ -30,8 +31,7 @@ use Rattle.plain_model.proofs.Rising.{next-absent}
 -- ---- the scope
 
 pub scope_count : (size unit : ℕ) (bitmap : Option BitmapState) → length (scope_for size unit bitmap) ≡ granules_in size unit
-scope_count size unit None = length-replicate (granules_in size unit) true
-scope_count size unit (Some b) = length-united unit b.bits.granularity (none_of size unit).set b.bits.set ∙ length-replicate (granules_in size unit) false
+scope_count size unit o = grind (arith, common_steps, length-united, none_of, length-replicate)
 
 pub whole_scope : (size unit x : ℕ) → IsAllowed size unit → x < size → is_in (scope_for size unit None) (x / unit) ≡ true
 whole_scope size unit x allowed inside =
@@ -48,10 +48,7 @@ covered_scope t unit x b allowed s idle covered =
 -- ---- the base
 
 pub not_whole : (p : Point) (span : Span) → base_of span p ≡ Whole → ⊥
-not_whole p Unknown h = absurd (cc)
-not_whole p (Known a Now) h = absurd (cc)
-not_whole p (Known a (At b)) h =
-    cond_both (same_point b p) (Since a) Loose (λ (base : Base). base ≡ Whole → ⊥) (λ same wrong. absurd (cc)) (λ other wrong. absurd (cc)) h
+not_whole p o h = grind (arith, common_steps)
 
 pub touched_wider : (set other : ℕ → Type 0) (t : Timeline) (a p : Point) → ((x : ℕ) → set x → other x) → AllTouched set t a (At p) → AllTouched other t a (At p)
 touched_wider set other t a p wider all = All-weaker (AllBytes set) (AllBytes other) (λ e each x low high. wider x (each x low high)) (touched t a (At p)) all
@@ -84,16 +81,10 @@ module _ (h0 : History) (p : Point) (rising : IsRising (with_point (timeline_of 
 
   scope_holds : (found : Option BitmapState) → IsReady (timeline_of (with_entry h0 (Reached p))) found
       → ScopeHolds (with_entry h0 (Reached p)) (new_job (length h0.start) p a found store) (base_for p found)
-  scope_holds None ready = λ x inside. whole_scope (length h0.start) store.cluster x allowed inside
-  scope_holds (Some b) ready = base_holds b (base_at p b) ready.0 ready.1 refl
+  scope_holds o ready = grind (arith, common_steps, whole_scope, base_holds)
 
   pub new_job_shaped : (found : Option BitmapState) → IsShapedStore (length h0.start) store → IsShapedJob (length h0.start) (new_job (length h0.start) p a found store)
-  new_job_shaped found shape = record {
-    store_shape = shape;
-    scope_count = scope_count (length h0.start) store.cluster found;
-    copied_count = length-replicate (granules_in (length h0.start) store.cluster) false ∙ sym (scope_count (length h0.start) store.cluster found);
-    in_scope = λ k wrong. absurd (both_ways _ (is_in-replicate (granules_in (length h0.start) store.cluster) k) wrong);
-  }
+  new_job_shaped found shape = search (rules, scope_count, length-replicate, both_ways, is_in-replicate)
 
   pub new_job_sound : (found : Option BitmapState) → IsShapedStore (length h0.start) store → IsReady (timeline_of (with_entry h0 (Reached p))) found
       → IsSoundJob (with_entry h0 (Reached p)) (new_job (length h0.start) p a found store)

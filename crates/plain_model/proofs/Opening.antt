@@ -1,29 +1,23 @@
 -- A session begins in a sound state.
-use Rattle.std.proofs.Common.{◌≡◌, ℕ, ◌+◌, ◌≤◌, List, [], ◌∷◌, ◌++◌, length, map, replicate, true, false, inl, inr, refl, sym, ap, subst, arith}
+use Rattle.std.proofs.Common.{rules}
+use Rattle.std.proofs.lemmas.Grind.{common_steps}
+use Rattle.std.proofs.Common.{◌≡◌, ℕ, ◌+◌, ◌≤◌, List, [], ◌∷◌, ◌++◌, length, map, true, refl, sym, subst, arith}
 use Rattle.std.specs.Prelude.{All, IsTrue}
-use Rattle.std.proofs.lemmas.List.{length-map, length-replicate}
+use Rattle.std.proofs.lemmas.List.{length-map}
 use Rattle.std.proofs.lemmas.List.Elements.{All-nil, All-cons, All-head, All-tail, All-map, All-append}
-use Rattle.std.proofs.lemmas.List.Sorted.{IsPermutation-refl}
-use Rattle.std.proofs.lemmas.Bool.{cases_Bool, both_ways}
 use Rattle.std.proofs.lemmas.Bool.Decides.{nat_tests}
-use Rattle.std.proofs.lemmas.Option.{none-some}
 use Rattle.span_algebra.specs.declared.points.Point.{Point}
 use Rattle.span_algebra.specs.Points.{precedes}
 use Rattle.span_algebra.specs.Timelines.{is_after, Rise}
 use Rattle.span_algebra.specs.Timelines as timelines
-use Rattle.bitmap_model.specs.Bitmap.{StoredBitmap, IsShapedBitmap, IsTrueBitmap, restored}
+use Rattle.bitmap_model.specs.Bitmap.{StoredBitmap, restored}
 use Rattle.bitmap_model.specs.Bitmaps.{most_bitmaps}
-use Rattle.bitmap_model.specs.BitmapLaws.{IsRecordedToNow}
-use Rattle.bitmap_model.proofs.Shapes.{restored_is_shaped}
-use Rattle.bitmap_model.proofs.Stored.{restored-trusted, restored-untrusted}
-use Rattle.core_events.specs.declared.commands.ExportArgs.{ExportArgs}
-use Rattle.script_model.specs.Recording.{is_drive}
 use Rattle.plain_model.specs.History.{History, IsHistory, timeline_of}
 use Rattle.plain_model.specs.Jobs.{Job}
-use Rattle.plain_model.specs.Machine.{Opening, opened, GoneView}
+use Rattle.plain_model.specs.Machine.{Opening, opened}
 use Rattle.plain_model.specs.Lawful.{IsTrueEntry, IsOfEpoch}
 use Rattle.plain_model.specs.Laws.{IsShapedEntry, IsLawfulOpening}
-use Rattle.plain_model.specs.Sound.{IsSoundBitmap, IsSoundJob, IsViewJob, IsUsedOnce, HasItsBitmap, IsSound}
+use Rattle.plain_model.specs.Sound.{IsSoundBitmap, IsUsedOnce, HasItsBitmap, IsSound}
 use Rattle.plain_model.proofs.Counting.{all_both}
 
 -- ---- the first point of a session
@@ -45,48 +39,12 @@ rises_to epoch serial (timelines.Reached q ∷ xs) old rising =
 
 -- ---- bitmaps that are restored
 
--- an entry that can't be trusted gives a name and a granularity alone
-untrusted_sound : (h : History) (e : StoredBitmap) → e.trusted ≡ false → IsShapedEntry (length h.start) e → IsSoundBitmap (timeline_of h) (restored e)
-untrusted_sound h e doubted shape =
-    subst (IsSoundBitmap (timeline_of h)) (sym (restored-untrusted e doubted)) (record {
-      name_is = shape.name_is;
-      shape = subst (IsShapedBitmap (length h.start)) (restored-untrusted e doubted) (restored_is_shaped (length h.start) e shape.shape shape.sized);
-      span_is = tt;
-      recorded = λ wrong. absurd (both_ways false refl wrong);
-      blank = λ inconsistent. record {
-        span = refl;
-        empty = ap (λ (n : ℕ). record { size = e.bits.size; granularity = e.bits.granularity; set = replicate n false }) (sym (length-replicate (length e.bits.set) false));
-        recording = refl;
-        free = refl;
-      };
-      kept = λ inconsistent. refl;
-    })
-
-trusted_sound : (h : History) (e : StoredBitmap) → e.trusted ≡ true → IsShapedEntry (length h.start) e → IsTrueEntry h e → IsSoundBitmap (timeline_of h) (restored e)
-trusted_sound h e sound shape truth =
-    subst (IsSoundBitmap (timeline_of h)) (sym (restored-trusted e sound)) (record {
-      name_is = shape.name_is;
-      shape = subst (IsShapedBitmap (length h.start)) (restored-trusted e sound) (restored_is_shaped (length h.start) e shape.shape shape.sized);
-      span_is = subst (IsTrueBitmap (timeline_of h)) (restored-trusted e sound) truth.span;
-      recorded = subst IsRecordedToNow (restored-trusted e sound) truth.recorded;
-      blank = λ wrong. absurd (both_ways false refl wrong);
-      kept = λ inconsistent. refl;
-    })
-
 pub restored_sound : (h : History) (e : StoredBitmap) → IsShapedEntry (length h.start) e → (IsTrue e.trusted → IsTrueEntry h e) → IsSoundBitmap (timeline_of h) (restored e)
-restored_sound h e shape truth =
-    elim (cases_Bool e.trusted) [
-      | inl sound ↦ trusted_sound h e sound shape (truth sound)
-      | inr doubted ↦ untrusted_sound h e doubted shape
-    ]
+restored_sound h e shape truth = grind (arith, common_steps)
 
 -- no job uses one
 restored_unused : (e : StoredBitmap) → IsUsedOnce [] (restored e)
-restored_unused e =
-    elim (cases_Bool e.trusted) [
-      | inl sound ↦ subst (IsUsedOnce []) (sym (restored-trusted e sound)) refl
-      | inr doubted ↦ subst (IsUsedOnce []) (sym (restored-untrusted e doubted)) refl
-    ]
+restored_unused e = search rules
 
 -- ---- the state
 
@@ -104,36 +62,15 @@ opening_sound h o is lawful = record {
       apart = lawful.apart;
       few = subst (λ (n : ℕ). n ≤ most_bitmaps) (sym (length-map o.entries restored)) lawful.few;
     };
-    jobs_are = record {
-      each = All-nil (IsSoundJob h);
-      are_views = All-nil IsViewJob;
-      ids = tt;
-      targets = tt;
-      off_drive = refl;
-      few = omega arith;
-    };
-    order = record { all = IsPermutation-refl []; in_order = refl };
+    jobs_are = search rules;
+    order = search rules;
     users = record {
       once = All-map (IsUsedOnce []) restored o.entries (λ k d below. restored_unused _);
       there = All-nil (λ (j : Job). HasItsBitmap h (map restored o.entries) j j.bitmap);
     };
-    exports_are = record {
-      ids = tt;
-      names = tt;
-      writable_ones = All-nil (λ (e : ExportArgs). IsTrue e.writable → IsTrue (is_drive e.node));
-      few = omega arith;
-    };
-    store_shape = record {
-      cluster_some = lawful.store_shape.cluster_some;
-      kind_count = lawful.store_shape.kind_count;
-      table_count = lawful.store_shape.table_count;
-    };
+    exports_are = search rules;
+    store_shape = search rules;
     quiet = λ broken. refl;
   };
-  numbers = record {
-    serials = omega arith;
-    events = omega arith;
-    broken_at = λ n wrong. absurd (none-some n wrong);
-    gone_at = All-nil (λ (v : GoneView). v.event ≤ 0);
-  };
+  numbers = search rules;
 }

@@ -1,5 +1,7 @@
 -- A sound state is sound for its history with the next point too.
-use Rattle.std.proofs.Common.{◌≡◌, ℕ, ◌+◌, ◌/◌, List, ◌++◌, true, sym, ap, subst, ◌∙◌, arith}
+use Rattle.std.proofs.Common.{rules}
+use Rattle.std.proofs.lemmas.Grind.{common_steps}
+use Rattle.std.proofs.Common.{◌≡◌, ℕ, ◌+◌, ◌/◌, List, true, sym, ap, subst, ◌∙◌, arith}
 use Rattle.std.specs.Prelude.{IsTrue, Option, Some, None, slice_index}
 use Rattle.std.proofs.lemmas.List.Elements.{All-weaker}
 use Rattle.std.proofs.lemmas.Bool.Decides.{nat_tests}
@@ -11,7 +13,6 @@ use Rattle.span_algebra.specs.Timelines.{Timeline, with_point, stands, IsRising}
 use Rattle.span_algebra.specs.Spans.{that_pass}
 use Rattle.bitmap_model.specs.Granules.{is_in}
 use Rattle.bitmap_model.specs.Bitmap.{BitmapState, successor_has}
-use Rattle.bitmap_model.specs.Bitmaps.{named}
 use Rattle.bitmap_model.proofs.TrueSpans.{further_point_keeps_true}
 use Rattle.plain_model.specs.History.{History, Entry, Reached, IsHistory, with_entry, timeline_of}
 use Rattle.plain_model.specs.Jobs.{Job, unit_of}
@@ -28,22 +29,10 @@ next_precedes epoch serial = grind (arith, nat_tests)
 -- ---- what is sound stays so as a point is drawn
 
 pub pointed_bitmap : (h : History) (p : Point) (b : BitmapState) → IsSoundBitmap (timeline_of h) b → IsSoundBitmap (timeline_of (with_entry h (Reached p))) b
-pointed_bitmap h p b s =
-    subst (λ (t : Timeline). IsSoundBitmap t b) (sym (timeline-reached h p)) (record {
-      name_is = s.name_is;
-      shape = s.shape;
-      span_is = further_point_keeps_true (timeline_of h) p b s.span_is;
-      recorded = s.recorded;
-      blank = s.blank;
-      kept = s.kept;
-    })
+pointed_bitmap h p b s = search (rules, timeline-reached, further_point_keeps_true)
 
 pub pointed_bitmaps : (h : History) (p : Point) (bs : List BitmapState) → AreSoundBitmaps (timeline_of h) bs → AreSoundBitmaps (timeline_of (with_entry h (Reached p))) bs
-pointed_bitmaps h p bs s = record {
-  each = All-weaker (IsSoundBitmap (timeline_of h)) (IsSoundBitmap (timeline_of (with_entry h (Reached p)))) (pointed_bitmap h p) bs s.each;
-  apart = s.apart;
-  few = s.few;
-}
+pointed_bitmaps h p bs s = search (rules, pointed_bitmap)
 
 -- what a job's scope covers it covers as the history goes on
 pub scope_goes_on : (h : History) (entry : Entry) (j : Job) (base : Base) → IsTrue (stands j.point (timeline_of h)) → ScopeHolds h j base → ScopeHolds (with_entry h entry) j base
@@ -66,22 +55,14 @@ pointed_job h p j s = record {
 }
 
 pub pointed_jobs : (h : History) (p : Point) (jobs views : List Job) → AreSoundJobs h jobs views → AreSoundJobs (with_entry h (Reached p)) jobs views
-pointed_jobs h p jobs views s = record {
-  each = All-weaker (IsSoundJob h) (IsSoundJob (with_entry h (Reached p))) (pointed_job h p) (jobs ++ views) s.each;
-  are_views = s.are_views;
-  ids = s.ids;
-  targets = s.targets;
-  off_drive = s.off_drive;
-  few = s.few;
-}
+pointed_jobs h p jobs views s = search (rules, pointed_job)
 
 pointed_successor : (h : History) (p q : Point) (found : Option BitmapState) → SuccessorHolds h q found → SuccessorHolds (with_entry h (Reached p)) q found
 pointed_successor h p q None s = s
 pointed_successor h p q (Some b) s = λ on. touched_now-reached (that_pass (successor_has b.successor)) h p q (s on)
 
 pointed_own : (h : History) (p : Point) (bs : List BitmapState) (j : Job) (own : Option (List ℕ)) → HasItsBitmap h bs j own → HasItsBitmap (with_entry h (Reached p)) bs j own
-pointed_own h p bs j None s = tt
-pointed_own h p bs j (Some name) s = pointed_successor h p j.point (named name bs) s
+pointed_own h p bs j o s = grind (arith, common_steps, pointed_successor)
 
 pub pointed_users : (h : History) (p : Point) (jobs : List Job) (bs : List BitmapState) → AreUsers h jobs bs → AreUsers (with_entry h (Reached p)) jobs bs
 pointed_users h p jobs bs s = record {
@@ -90,21 +71,9 @@ pointed_users h p jobs bs s = record {
 }
 
 pub pointed_for : (h : History) (p : Point) (m : Machine) → IsSoundFor h m → IsSoundFor (with_entry h (Reached p)) m
-pointed_for h p m s = record {
-  sized = s.sized;
-  bitmaps_are = pointed_bitmaps h p m.bitmaps s.bitmaps_are;
-  jobs_are = pointed_jobs h p m.jobs m.views s.jobs_are;
-  order = s.order;
-  users = pointed_users h p m.jobs m.bitmaps s.users;
-  exports_are = s.exports_are;
-  store_shape = s.store_shape;
-  quiet = s.quiet;
-}
+pointed_for h p m s = search (rules, pointed_bitmaps, pointed_jobs, pointed_users)
 
 -- ---- a sound state at its next point
-
-pub rising_next : (m : Machine) → IsSound m → IsRising (timeline_of (with_entry m.history (Reached (next_point m))))
-rising_next m s = subst IsRising (sym (timeline-reached m.history (next_point m))) s.next
 
 pub pointed_history : (m : Machine) → IsSound m → IsHistory (with_entry m.history (Reached (next_point m)))
 pointed_history m s = history-reached m.history (next_point m) s.history_is s.next

@@ -1,9 +1,11 @@
 -- The disk at a point, what stands and what was touched, as a history goes on.
-use Rattle.std.proofs.Common.{◌≡◌, ℕ, true, false, inl, inr, refl, sym, ap, subst, ◌∙◌, List, [], ◌∷◌, ◌++◌, length, map}
-use Rattle.std.specs.Prelude.{All, IsTrue}
+use Rattle.std.proofs.Common.{rules}
+use Rattle.std.proofs.Common.{arith}
+use Rattle.std.proofs.lemmas.Grind.{common_steps}
+use Rattle.std.proofs.Common.{◌≡◌, ℕ, true, false, refl, sym, ap, subst, List, [], ◌∷◌, ◌++◌, length, map}
+use Rattle.std.specs.Prelude.{IsTrue}
 use Rattle.std.proofs.lemmas.List.{map-append}
-use Rattle.std.proofs.lemmas.List.Elements.{All-cons, All-nil, All-append}
-use Rattle.std.proofs.lemmas.Bool.{both_ways, cases_Bool, cond-true, cond-false, or_parts}
+use Rattle.std.proofs.lemmas.Bool.{both_ways, cond-true}
 use Rattle.disk_model.specs.Files.{overlay}
 use Rattle.span_algebra.specs.declared.points.Point.{Point}
 use Rattle.span_algebra.specs.declared.points.End.TheVariants.{Now, At}
@@ -11,7 +13,7 @@ use Rattle.span_algebra.specs.Points.{same_point}
 use Rattle.span_algebra.specs.Timelines.{Timeline, with_write, with_point, LieInside, has_point, stands, after_point, writes, touched}
 use Rattle.span_algebra.specs.Timelines as timelines
 use Rattle.span_algebra.specs.Spans.{AllBytes, AllTouched}
-use Rattle.span_algebra.proofs.Touched.{has_point-more, past_write, past_other, writes-append, before_point-append, after_point-append, touched-point}
+use Rattle.span_algebra.proofs.Touched.{has_point-more, past_write, writes-append, before_point-append, after_point-append, touched-point}
 use Rattle.span_algebra.proofs.PointOrder.{same_point-itself}
 use Rattle.span_algebra.proofs.LastPoint.{last_stands}
 use Rattle.plain_model.specs.History.{Entry, Wrote, Reached, History, StaysInside, disk_after, now, entries_before, disk_at, with_entry, without_bytes, timeline_of}
@@ -48,15 +50,8 @@ now-reached h p = now-more h (Reached p ∷ [])
 
 before-more : (p : Point) (xs ys : List Entry) → has_point p (map without_bytes xs) ≡ true → entries_before p (xs ++ ys) ≡ entries_before p xs
 before-more p [] ys h = absurd (both_ways false refl h)
-before-more p (Wrote at bytes ∷ xs) ys h =
-    ap (λ (zs : List Entry). Wrote at bytes ∷ zs) (before-more p xs ys (past_write p (record { at = at; size = length bytes }) (map without_bytes xs) h))
-before-more p (Reached q ∷ xs) ys h =
-    elim (cases_Bool (same_point p q)) [
-      | inl same ↦ cond-true (same_point p q) [] (Reached q ∷ entries_before p (xs ++ ys)) same ∙ sym (cond-true (same_point p q) [] (Reached q ∷ entries_before p xs) same)
-      | inr other ↦ cond-false (same_point p q) [] (Reached q ∷ entries_before p (xs ++ ys)) other
-          ∙ (ap (λ (zs : List Entry). Reached q ∷ zs) (before-more p xs ys (past_other p q (map without_bytes xs) other h))
-          ∙ sym (cond-false (same_point p q) [] (Reached q ∷ entries_before p xs) other))
-    ]
+before-more p (Wrote at bytes ∷ xs) ys h = search (rules, before-more p xs ys (past_write p (record { at = at; size = length bytes }) (map without_bytes xs) h))
+before-more p (Reached q ∷ xs) ys h = grind (arith, common_steps, before-more p xs ys)
 
 -- the disk at a point that stands stays
 pub disk_at-more : (h : History) (es : List Entry) (p : Point) → IsTrue (stands p (timeline_of h)) → disk_at (with_entries h es) p ≡ disk_at h p
@@ -67,12 +62,8 @@ disk_at-entry h entry p there = disk_at-more h (entry ∷ []) p there
 
 before-new : (p : Point) (xs : List Entry) → has_point p (map without_bytes xs) ≡ false → entries_before p (xs ++ Reached p ∷ []) ≡ xs
 before-new p [] absent = cond-true (same_point p p) [] (Reached p ∷ []) (same_point-itself p)
-before-new p (Wrote at bytes ∷ xs) absent =
-    ap (λ (zs : List Entry). Wrote at bytes ∷ zs) (before-new p xs (or_parts false (has_point p (map without_bytes xs)) absent).1)
-before-new p (Reached q ∷ xs) absent =
-    let neither = or_parts (same_point p q) (has_point p (map without_bytes xs)) absent in
-    cond-false (same_point p q) [] (Reached q ∷ entries_before p (xs ++ Reached p ∷ [])) neither.0
-    ∙ ap (λ (zs : List Entry). Reached q ∷ zs) (before-new p xs neither.1)
+before-new p (Wrote at bytes ∷ xs) absent = search (rules, before-new p xs)
+before-new p (Reached q ∷ xs) absent = grind (arith, common_steps, before-new p xs)
 
 -- at a new point it is the disk now
 pub disk_at-new : (h : History) (p : Point) → stands p (timeline_of h) ≡ false → disk_at (with_entry h (Reached p)) p ≡ now h
@@ -81,12 +72,7 @@ disk_at-new h p absent = ap (disk_after h.start) (before-new p h.entries absent)
 inside-before : (size : ℕ) (p : Point) (xs : List Entry) → LieInside size (map without_bytes xs) → LieInside size (map without_bytes (entries_before p xs))
 inside-before size p [] inside = tt
 inside-before size p (Wrote at bytes ∷ xs) inside = (inside.0, inside-before size p xs inside.1)
-inside-before size p (Reached q ∷ xs) inside =
-    elim (cases_Bool (same_point p q)) [
-      | inl same ↦ subst (λ (ys : List Entry). LieInside size (map without_bytes ys)) (sym (cond-true (same_point p q) [] (Reached q ∷ entries_before p xs) same)) tt
-      | inr other ↦ subst (λ (ys : List Entry). LieInside size (map without_bytes ys)) (sym (cond-false (same_point p q) [] (Reached q ∷ entries_before p xs) other))
-          (inside-before size p xs inside)
-    ]
+inside-before size p (Reached q ∷ xs) inside = search (rules, inside-before size p xs inside)
 
 pub length-disk_at : (h : History) (p : Point) → StaysInside h → length (disk_at h p) ≡ length h.start
 length-disk_at h p inside = length-disk_after h.start (entries_before p h.entries) (inside-before (length h.start) p h.entries inside)
@@ -105,10 +91,7 @@ stands-new h p = subst (λ (t : Timeline). IsTrue (stands p t)) (sym (timeline-r
 -- what was touched up to a point that stands stays
 pub touched-more : (set : ℕ → Type 0) (h : History) (es : List Entry) (a b : Point) → IsTrue (stands b (timeline_of h))
     → AllTouched set (timeline_of h) a (At b) → AllTouched set (timeline_of (with_entries h es)) a (At b)
-touched-more set h es a b there all =
-    let ms : List timelines.Entry = map without_bytes es in
-    subst (λ (t : Timeline). AllTouched set t a (At b)) (sym (timeline-more h es))
-    (subst (λ (xs : List timelines.Entry). All (AllBytes set) (writes (after_point a xs))) (sym (before_point-append b (timeline_of h).entries ms there)) all)
+touched-more set h es a b there all = search (rules, timeline-more, before_point-append, there)
 
 pub touched-entry : (set : ℕ → Type 0) (h : History) (entry : Entry) (a b : Point) → IsTrue (stands b (timeline_of h))
     → AllTouched set (timeline_of h) a (At b) → AllTouched set (timeline_of (with_entry h entry)) a (At b)
@@ -117,15 +100,7 @@ touched-entry set h entry a b there all = touched-more set h (entry ∷ []) a b 
 -- up to now a write's bytes are added
 pub touched_now-wrote : (set : ℕ → Type 0) (h : History) (at : ℕ) (bytes : List ℕ) (a : Point) → IsTrue (stands a (timeline_of h))
     → AllBytes set (record { at = at; size = length bytes }) → AllTouched set (timeline_of h) a Now → AllTouched set (timeline_of (with_entry h (Wrote at bytes))) a Now
-touched_now-wrote set h at bytes a there new all =
-    let e : timelines.Extent = record { at = at; size = length bytes } in
-    let xs : List timelines.Entry = (timeline_of h).entries in
-    let is : touched (with_write (timeline_of h) e) a Now ≡ touched (timeline_of h) a Now ++ e ∷ [] =
-    ap writes (after_point-append a xs (timelines.Wrote e ∷ []) there) ∙ writes-append (after_point a xs) (timelines.Wrote e ∷ []) in
-    subst (λ (t : Timeline). AllTouched set t a Now) (sym (timeline-wrote h at bytes))
-    (subst (All (AllBytes set)) (sym is) (All-append (AllBytes set) (touched (timeline_of h) a Now) (e ∷ []) all (All-cons (AllBytes set) e [] new (All-nil (AllBytes set)))))
+touched_now-wrote set h at bytes a there new all = grind (arith, common_steps, after_point-append, there, writes-append, timeline-wrote)
 
 pub touched_now-reached : (set : ℕ → Type 0) (h : History) (p a : Point) → AllTouched set (timeline_of h) a Now → AllTouched set (timeline_of (with_entry h (Reached p))) a Now
-touched_now-reached set h p a all =
-    subst (λ (t : Timeline). AllTouched set t a Now) (sym (timeline-reached h p))
-    (subst (All (AllBytes set)) (sym (touched-point a p (timeline_of h).entries)) all)
+touched_now-reached set h p a all = search (rules, timeline-reached, touched-point)

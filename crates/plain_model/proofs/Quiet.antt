@@ -1,64 +1,41 @@
 -- Where no count rose and nothing is refused for want of memory, an event is answered as if nothing could go wrong.
-use Rattle.std.proofs.Common.{◌≡◌, ℕ, Bool, false, inl, inr, refl, sym, ap, subst, ◌∙◌, arith, List, [], ◌∷◌, ◌++◌, map}
+use Rattle.std.proofs.lemmas.Grind.{common_steps}
+use Rattle.std.proofs.Common.{rules}
+use Rattle.std.proofs.Common.{◌≡◌, ℕ, Bool, false, refl, sym, ap, subst, ◌∙◌, arith, List, [], ◌∷◌, map}
 use Rattle.std.specs.Prelude.{Option, Some, None, is_some, ◌⊎◌, All, Contains, find, if◌then◌else◌}
-use Rattle.std.proofs.lemmas.List.Elements.{All-nil, All-cons, All-head, All-tail, All-weaker, All-contains, All-contains_itself, Contains-append_left, Contains-append_right}
-use Rattle.std.proofs.lemmas.Bool.{both_ways, cases_Bool, cond_both, cond-true, cond-false, false_from_ne_true}
+use Rattle.std.proofs.lemmas.List.Elements.{All-nil, All-head, All-tail, All-weaker, All-contains, All-contains_itself, Contains-append_left, Contains-append_right}
+use Rattle.std.proofs.lemmas.Bool.{both_ways, false_from_ne_true}
 use Rattle.std.proofs.lemmas.Slice.Eq.{bytes_eq-Decides}
 use Rattle.span_algebra.specs.Timelines.{Extent}
 use Rattle.core_events.specs.Events.{Request, Event, Guest, Monitor, Tick}
 use Rattle.core_events.specs.declared.answers.Errno.{Errno}
-use Rattle.core_events.specs.declared.answers.Errno.TheVariants.{NoSpace}
 use Rattle.core_events.specs.declared.answers.JobFault.TheVariants.{Failed}
-use Rattle.core_events.specs.Answers.{Done, Answer}
-use Rattle.plain_model.specs.Jobs.{Job, Tried, has_id, copies, next_unit}
+use Rattle.core_events.specs.Answers.{Answer}
+use Rattle.plain_model.specs.Jobs.{Job, Tried, copies}
 use Rattle.plain_model.specs.Machine.{Machine, size_of, runners, job_of}
-use Rattle.plain_model.specs.Requests.{Place, Drive, Live, Gone, Nowhere, place_of, denial, lacks_room, granted, is_write, range_of}
+use Rattle.plain_model.specs.Requests.{denial}
 use Rattle.plain_model.specs.Ending.{Noted, leave, given_back, stop_notices}
 use Rattle.plain_model.specs.Actions.{Held, Hindrance}
-use Rattle.plain_model.specs.Outcome.{RequestEnd, Well, Untouched, Torn, Trouble, no_trouble, Outcome, answered, with_reply, Fate, Denied, Lost, Carried, CarriedInPart, fate_by, fate, tried_before, has_stopped, after_copying, after_marking, bytes_of, by_fate, breaks_by, or_break, guest, after_try, after_seal, tick_of, tick, command, numbered, outcome}
-use Rattle.plain_model.specs.Faults.{Rise, HasFailed, IsTiedAt, is_well, IsRequestTied, AreCopiesTied, StepFaults}
-use Rattle.plain_model.specs.Step.{SpaceBy, StepSpace, Step}
+use Rattle.plain_model.specs.Outcome.{RequestEnd, Well, Trouble, no_trouble, Outcome, Fate, Denied, Lost, Carried, CarriedInPart, fate_by, fate, tried_before, has_stopped, after_copying, by_fate, breaks_by, or_break, guest, after_try, after_seal, tick, numbered, outcome}
+use Rattle.plain_model.specs.Faults.{Rise, HasFailed, IsRequestTied, AreCopiesTied, StepFaults}
+use Rattle.plain_model.specs.Step.{StepSpace, Step}
 use Rattle.plain_model.specs.Laws.{IsQuiet, WentWell, IsForMemory}
 use Rattle.plain_model.proofs.Memory.{with_memory, free-command}
 
 -- ---- what the ties leave of a trouble
 
--- where no count rose, no call on a file failed
-no_failure : (rise : Rise) (file : List ℕ) → IsQuiet rise → HasFailed rise file → ⊥
-no_failure rise file quiet failed = omega (arith, quiet.reads file, quiet.writes file)
-
 -- nor did one on either of two files
 neither_failed : (rise : Rise) (source target : List ℕ) → IsQuiet rise → HasFailed rise source ⊎ HasFailed rise target → ⊥
-neither_failed rise source target quiet (inl failed) = no_failure rise source quiet failed
-neither_failed rise source target quiet (inr failed) = no_failure rise target quiet failed
-
--- so a fault of a request is tied to nothing
-untied : (rise : Rise) (source : List ℕ) (place : Place) → IsQuiet rise → IsTiedAt rise source place → ⊥
-untied rise source Drive quiet tied = no_failure rise source quiet tied
-untied rise source (Live job) quiet tied = neither_failed rise source job.target quiet tied
-untied rise source (Gone event) quiet tied = tied
-untied rise source Nowhere quiet tied = tied
-
--- what can't have gone ill went well
-well_if : (end : RequestEnd) → (is_well end ≡ false → ⊥) → end ≡ Well
-well_if Well none = refl
-well_if Untouched none = absurd (none refl)
-well_if (Torn bytes) none = absurd (none refl)
+neither_failed rise source target quiet o = grind (arith, common_steps)
 
 -- a request went well
 went_well : (rise : Rise) (source : List ℕ) (t : Trouble) (old : Machine) (r : Request) → IsQuiet rise → IsRequestTied rise source t old (Guest r) → t.request ≡ Well
-went_well rise source t old r quiet tied = well_if t.request (λ ill. untied rise source (place_of r.way old) quiet (tied ill))
+went_well rise source t old r quiet tied = search rules
 
 -- none passes a test that finds none
 none_found : (test : Job → Bool) (jobs : List Job) → find test jobs ≡ None → All (λ (j : Job). test j ≡ false) jobs
 none_found test [] none = All-nil (λ (j : Job). test j ≡ false)
-none_found test (j ∷ jobs) none = elim (cases_Bool (test j)) [
-  | inl passes ↦ absurd (some_is_none j (sym (cond-true (test j) (Some j) (find test jobs) passes) ∙ none))
-  | inr fails ↦ All-cons (λ (k : Job). test k ≡ false) j jobs fails (none_found test jobs (sym (cond-false (test j) (Some j) (find test jobs) fails) ∙ none))
-]
-  where
-    some_is_none : (k : Job) → Some k ≡ None → ⊥
-    some_is_none k e = cc
+none_found test (j ∷ jobs) none = search (rules, none_found test jobs)
 
 -- no device call fails for the job or view
 abbrev IsFree : Trouble → Job → Type 0
@@ -66,8 +43,7 @@ IsFree t j = t.failing j.id ≡ None
 
 -- a job of a list is found by its id
 is_found : (jobs : List Job) (j : Job) → Contains jobs j → job_of j.id jobs ≡ None → ⊥
-is_found jobs j here none =
-    both_ways (has_id j.id j) (All-contains (λ (k : Job). has_id j.id k ≡ false) jobs j (none_found (has_id j.id) jobs none) here) ((bytes_eq-Decides j.id j.id).1 refl)
+is_found jobs j here none = search (rules, both_ways, none_found, here, bytes_eq-Decides)
 
 -- no device call failed for one job or view that runs
 free_one : (rise : Rise) (source : List ℕ) (t : Trouble) (old : Machine) (j : Job) (unit : Option ℕ) (found : Option Job) → IsQuiet rise → AreCopiesTied rise source t old
@@ -147,8 +123,7 @@ IsCalm (CarriedInPart bytes) = ⊥
 
 -- where a request went well, its fate meets no fault, whether it is denied or not
 calm_well : (why : Option Errno) (r : Request) (m : Machine) → IsCalm (fate_after why Well r m)
-calm_well (Some errno) r m = tt
-calm_well None r m = cond_both (lacks_room r m) (Denied NoSpace) Carried IsCalm (λ _. tt) (λ _. tt)
+calm_well o r m = grind (arith, common_steps)
 
 -- the same of the fate as it is defined
 calm : (t : Trouble) (r : Request) (m : Machine) → t.request ≡ Well → IsCalm (fate t r m)
@@ -158,25 +133,15 @@ calm t r m well = subst IsCalm (sym (fate-is t r m ∙ ap (λ (end : RequestEnd)
 same_fate : (t : Trouble) (r : Request) (m : Machine) → t.request ≡ Well → fate t r m ≡ fate no_trouble r m
 same_fate t r m well = fate-is t r m ∙ (ap (λ (end : RequestEnd). fate_after (denial r m) end r m) well ∙ sym (fate-is no_trouble r m))
 
--- a request that is carried out, once copies are made
-abbrev carried_as : Request → Machine → Noted → Outcome
-carried_as r m n =
-    if is_write r.work then with_reply Done (record n { machine = after_marking (range_of r) (bytes_of r r.work) n.machine }) else answered (granted r r.work m) m
-
 -- what follows from a fate without fault is the same without trouble
 same_by_fate : (f : Fate) (t : Trouble) (r : Request) (m : Machine) → IsCalm f → All (IsFree t) (runners m)
     → or_break (breaks_by f t r.work) (by_fate f t r m) ≡ or_break (breaks_by f no_trouble r.work) (by_fate f no_trouble r m)
-same_by_fate (Denied errno) t r m calm free = refl
-same_by_fate Lost t r m calm free = absurd calm
-same_by_fate Carried t r m calm free = ap (carried_as r m) (same_copying t (range_of r) m free)
-same_by_fate (CarriedInPart bytes) t r m calm free = absurd calm
+same_by_fate o t r m calm free = grind (arith, common_steps, calm, same_copying)
 
 -- a request that went well is answered as without trouble
 same_guest : (t : Trouble) (r : Request) (m : Machine) → t.request ≡ Well → All (IsFree t) (runners m) → guest t r m ≡ guest no_trouble r m
 unfolding guest
-same_guest t r m well free =
-    same_by_fate (fate t r m) t r m (calm t r m well) free
-    ∙ ap (λ (f : Fate). or_break (breaks_by f no_trouble r.work) (by_fate f no_trouble r m)) (same_fate t r m well)
+same_guest t r m well free = search (rules, same_by_fate, calm, same_fate)
 
 -- the front job is served, by its next unit
 abbrev pub served_by : Job → List Job → Machine → Option ℕ → Option ℕ → Outcome
@@ -185,46 +150,25 @@ served_by j rest m fails next = elim next [
   | None ↦ if is_some fails then after_try rest (record { job = j; stop = Some Failed }) m else after_seal j m
 ]
 
--- a tick for which no call failed is answered as without trouble
-same_tick_of : (t : Trouble) (jobs others : List Job) (m : Machine) → All (IsFree t) (jobs ++ others) → tick_of t jobs m ≡ tick_of no_trouble jobs m
-same_tick_of t [] others m free = refl
-same_tick_of t (j ∷ rest) others m free = ap (λ (fails : Option ℕ). served_by j rest m fails (next_unit j)) (All-head (IsFree t) j (rest ++ others) free)
-
 -- so is a tick of the machine
 same_tick : (t : Trouble) (m : Machine) → All (IsFree t) (runners m) → tick t m ≡ tick no_trouble m
 unfolding tick
-same_tick t m free = same_tick_of t m.jobs m.views m free
+same_tick t m free = search rules
 
 -- where no count rose and nothing is refused for want of memory, the outcome is that without trouble
 pub same_outcome : (source : List ℕ) (held : List ℕ → Held) (rise : Rise) (t : Trouble) (old : Machine) (event : Event) (answer : Answer) → IsQuiet rise
     → StepFaults source rise t old event answer → (IsForMemory (outcome held t event old).answer → ⊥) → outcome held t event old ≡ outcome held no_trouble event old
 unfolding outcome
-same_outcome source held rise t old (Guest r) answer quiet faults none =
-    same_guest t r (numbered old) (went_well rise source t old r quiet faults.request) (all_free rise source t old quiet faults.copies)
-same_outcome source held rise t old (Monitor c) answer quiet faults none =
-    let read : (name : List ℕ) → t.hindrance.unread name ≡ false =
-    λ name. false_from_ne_true (t.hindrance.unread name) (λ unread. let rose = faults.starts name unread in omega (arith, rose, quiet.shared)) in
-    free-command held t.hindrance c (numbered old) none
-    ∙ ap (λ (h : Hindrance). command held h c (numbered old)) (unhindered t.hindrance read)
+same_outcome source held rise t old (Guest r) answer quiet faults none = search (rules, same_guest, went_well, all_free)
+same_outcome source held rise t old (Monitor c) answer quiet faults none = search (rules, false_from_ne_true, free-command, unhindered)
 same_outcome source held rise t old Tick answer quiet faults none = same_tick t (numbered old) (all_free rise source t old quiet faults.copies)
 
 -- and the source's space is what it becomes without trouble
 same_space : (source : List ℕ) (rise : Rise) (t : Trouble) (old : Machine) (event : Event) (answer : Answer) (new : Machine) → IsQuiet rise
     → StepFaults source rise t old event answer → StepSpace t old event new → StepSpace no_trouble old event new
-same_space source rise t old (Guest r) answer new quiet faults space =
-    subst (λ (f : Fate). SpaceBy f r old new) (same_fate t r (numbered old) (went_well rise source t old r quiet faults.request)) space
-same_space source rise t old (Monitor c) answer new quiet faults space = space
-same_space source rise t old Tick answer new quiet faults space = space
+same_space source rise t old o answer new quiet faults space = grind (arith, common_steps, same_fate, went_well)
 
 -- where no count rose and nothing is refused for want of memory, answer, state and space are those without trouble
 pub quiet_owed : (source : List ℕ) (held : List ℕ → Held) (rise : Rise) (old : Machine) (event : Event) (answer : Answer) (new : Machine)
     → Step source held rise old event answer new → IsQuiet rise → (IsForMemory answer → ⊥) → WentWell held old event answer new
-quiet_owed source held rise old event answer new step quiet none =
-    let met : IsForMemory (outcome held step.trouble event old).answer → ⊥ = subst (λ (a : Answer). IsForMemory a → ⊥) step.contents.answer_is none in
-    let same : outcome held step.trouble event old ≡ outcome held no_trouble event old =
-    same_outcome source held rise step.trouble old event answer quiet step.faults met in
-    record {
-      answer_is = step.contents.answer_is ∙ ap (λ (o : Outcome). o.answer) same;
-      state_is = step.contents.state_is ∙ ap (λ (o : Outcome). record o.machine { store = new.store; freed = new.freed }) same;
-      space_is = same_space source rise step.trouble old event answer new quiet step.faults step.space;
-    }
+quiet_owed source held rise old event answer new step quiet none = search (rules, same_outcome, same_space)

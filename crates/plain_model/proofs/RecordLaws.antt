@@ -1,4 +1,5 @@
 -- A true record stays true as the history goes on.
+use Rattle.std.proofs.Common.{rules}
 use Rattle.std.proofs.Common.{List, [], ◌∷◌, sym, subst}
 use Rattle.std.specs.Prelude.{IsTrue}
 use Rattle.span_algebra.specs.declared.points.Point.{Point}
@@ -11,20 +12,12 @@ use Rattle.plain_model.specs.Records.{Backup, BackupState, Blank, Begun, Sealed,
 use Rattle.plain_model.proofs.Points.{with_entries, disk_at-more, stands-more, touched-more}
 
 pub point-more : (h : History) (es : List Entry) (b : Backup) (p : Point) → HoldsPoint h b p → HoldsPoint (with_entries h es) b p
-point-more h es b p holds = record {
-  drawn = stands-more h es p holds.drawn;
-  sized = holds.sized;
-  reads = subst (ReadsAs b) (sym (disk_at-more h es p holds.drawn)) holds.reads;
-}
+point-more h es b p holds = search (rules, stands-more h es p holds.drawn, subst (ReadsAs b) (sym (disk_at-more h es p holds.drawn)) holds.reads)
 
 pub base-more : (h : History) (es : List Entry) (b : Backup) (base : Base) (p : Point) → IsTrue (stands p (timeline_of h)) → BaseHolds h b base p
     → BaseHolds (with_entries h es) b base p
 base-more h es b Whole p there holds = holds
-base-more h es b (Since a) p there holds = record {
-  drawn = stands-more h es a holds.drawn;
-  order = holds.order;
-  changes = touched-more (that_pass (is_present b)) h es a p there holds.changes;
-}
+base-more h es b (Since a) p there holds = search (rules, stands-more h es a holds.drawn, touched-more (that_pass (is_present b)) h es a p there holds.changes)
 base-more h es b Loose p there holds = tt
 
 pub state-more : (h : History) (es : List Entry) (b : Backup) (state : BackupState) → StateHolds h b state → StateHolds (with_entries h es) b state

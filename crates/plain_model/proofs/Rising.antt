@@ -1,4 +1,6 @@
 -- Points that rise, as a timeline or a history goes on.
+use Rattle.std.proofs.Common.{arith}
+use Rattle.std.proofs.lemmas.Grind.{common_steps}
 use Rattle.std.proofs.Common.{◌≡◌, ℕ, ◌+◌, ◌≤◌, true, false, inl, inr, refl, sym, subst, List, [], ◌∷◌, ◌++◌, length, append_assoc}
 use Rattle.std.specs.Prelude.{All, IsTrue}
 use Rattle.std.proofs.lemmas.List.Elements.{All-cons, All-nil, All-append, All-head, All-tail, All-weaker}
@@ -6,7 +8,7 @@ use Rattle.std.proofs.lemmas.Bool.{both_ways, cases_Bool, false_from_ne_true}
 use Rattle.span_algebra.specs.declared.points.Point.{Point}
 use Rattle.span_algebra.specs.Points.{same_point, precedes}
 use Rattle.span_algebra.specs.Timelines.{Extent, Entry, Wrote, Reached, Timeline, with_write, with_point, is_after, Rise, IsRising, has_point, stands}
-use Rattle.span_algebra.proofs.PointOrder.{precedes-itself, precedes-trans, same_point-true}
+use Rattle.span_algebra.proofs.PointOrder.{precedes-itself, same_point-true}
 use Rattle.span_algebra.proofs.Touched.{past_write, past_other}
 use Rattle.span_algebra.proofs.LastPoint.{ArePast, is_before, past}
 use Rattle.plain_model.specs.History as history
@@ -34,8 +36,7 @@ writes-rise (Reached q ∷ ms) are = absurd are
 pub rise-writes : (xs ms : List Entry) → Rise xs → AreWrites ms → Rise (xs ++ ms)
 rise-writes [] ms rising are = writes-rise ms are
 rise-writes (Wrote e ∷ xs) ms rising are = rise-writes xs ms rising are
-rise-writes (Reached p ∷ xs) ms rising are =
-    (All-append (λ m. IsTrue (is_after p m)) xs ms rising.0 (after-writes p ms are), rise-writes xs ms rising.1 are)
+rise-writes (Reached p ∷ xs) ms rising are = grind (arith, common_steps, rise-writes xs ms rising.1 are, after-writes)
 
 all-amid : (P : Entry → Type 0) (m : Entry) (xs ys : List Entry) → P m → All P (xs ++ ys) → All P (xs ++ m ∷ ys)
 all-amid P m [] ys here all = All-cons P m ys here all
@@ -61,8 +62,7 @@ rise-last q (Reached p ∷ xs) rising early = (
 )
 
 past-later : (p q : Point) → IsTrue (precedes p q) → (m : Entry) → IsTrue (is_before p m) → IsTrue (is_before q m)
-past-later p q order (Wrote e) early = refl
-past-later p q order (Reached r) early = precedes-trans r p q early order
+past-later p q order o early = grind (arith, common_steps)
 
 -- a point after the last one is after all others
 pub rising-point : (t : Timeline) (p q : Point) → IsRising (with_point t p) → IsTrue (precedes p q) → IsRising (with_point (with_point t p) q)
@@ -71,19 +71,6 @@ rising-point t p q rising order =
     (All-append (λ m. IsTrue (is_before q m)) t.entries (Reached p ∷ [])
     (All-weaker (λ m. IsTrue (is_before p m)) (λ m. IsTrue (is_before q m)) (past-later p q order) t.entries (past p t.entries rising))
     (All-cons (λ m. IsTrue (is_before q m)) (Reached p) [] order (All-nil (λ m. IsTrue (is_before q m)))))
-
-rise-front : (xs ys : List Entry) → Rise (xs ++ ys) → Rise xs
-rise-front [] ys rising = tt
-rise-front (Wrote e ∷ xs) ys rising = rise-front xs ys rising
-rise-front (Reached p ∷ xs) ys rising = (all-front (λ m. IsTrue (is_after p m)) xs ys rising.0, rise-front xs ys rising.1)
-  where
-    all-front : (P : Entry → Type 0) (xs ys : List Entry) → All P (xs ++ ys) → All P xs
-    all-front P [] ys all = All-nil P
-    all-front P (x ∷ xs) ys all = All-cons P x xs (All-head P x (xs ++ ys) all) (all-front P xs ys (All-tail P x (xs ++ ys) all))
-
--- without its last point it still rises
-pub rising-before : (t : Timeline) (p : Point) → IsRising (with_point t p) → IsRising t
-rising-before t p rising = rise-front t.entries (Reached p ∷ []) rising
 
 past-stands : (p q : Point) (xs : List Entry) → ArePast p xs → has_point q xs ≡ true → precedes q p ≡ true
 past-stands p q [] early there = absurd (both_ways false refl there)

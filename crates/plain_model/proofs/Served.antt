@@ -1,14 +1,15 @@
 -- A tick keeps a state sound.
-use Rattle.std.proofs.Common.{◌≡◌, ℕ, List, [], ◌∷◌, ◌++◌, append_assoc, length-append, Bool, true, Option, Some, None, is_some, IsTrue, All, IsPermutation, map, count_by, bytes_eq, refl, sym, ap, subst, ◌∙◌, inl, inr, arith}
+use Rattle.std.proofs.lemmas.Grind.{common_steps}
+use Rattle.std.proofs.Common.{rules}
+use Rattle.std.proofs.Common.{◌≡◌, ℕ, List, [], ◌∷◌, ◌++◌, append_assoc, length-append, Bool, true, Option, Some, None, is_some, IsTrue, All, IsPermutation, map, count_by, bytes_eq, refl, sym, ap, subst, ◌∙◌, arith}
 use Rattle.std.specs.Prelude.{if◌then◌else◌}
 use Rattle.std.specs.List.{list_any}
-use Rattle.std.proofs.lemmas.Bool.{cases_Bool, cond_both}
+use Rattle.std.proofs.lemmas.Bool.{cond_both}
 use Rattle.std.proofs.lemmas.List.Elements.{All-nil, All-cons, All-head, All-tail, All-append, All-push, All-weaker}
 use Rattle.std.proofs.lemmas.List.Sorted.{IsPermutation-map, IsPermutation-middle, IsPermutation-trans}
 use Rattle.bitmap_model.specs.Bitmap.{BitmapState}
 use Rattle.bitmap_model.specs.Granules.{is_in}
 use Rattle.bitmap_model.proofs.Copies.{least_missing, missing_parts}
-use Rattle.bitmap_model.proofs.Lists.{same_bytes, same_bytes-back}
 use Rattle.core_events.specs.declared.answers.JobFault.{JobFault}
 use Rattle.core_events.specs.declared.answers.JobFault.TheVariants.{Failed}
 use Rattle.core_events.specs.Answers.{Done}
@@ -28,10 +29,7 @@ use Rattle.plain_model.proofs.Grown.{with_copies, IsGrown, copies_grow, grown_is
 -- ---- the front job goes to the back
 
 bytes_either : (a b : List ℕ) → bytes_eq a b ≡ bytes_eq b a
-bytes_either a b = elim (cases_Bool (bytes_eq a b)) [
-  | inl same ↦ ap (λ (c : List ℕ). bytes_eq a c) (sym (same_bytes a b same)) ∙ ap (λ (c : List ℕ). bytes_eq c a) (same_bytes a b same)
-  | inr other ↦ other ∙ sym (same_bytes-back a b other)
-]
+bytes_either a b = search rules
 
 moved_jobs : (h : History) (j : Job) (rest views : List Job) → AreSoundJobs h (j ∷ rest) views → AreSoundJobs h (rest ++ j ∷ []) views
 moved_jobs h j rest views s =
@@ -74,21 +72,14 @@ moved_users h j rest bs s =
 
 served_jobs : (h : History) (j : Job) (copied : List Bool) (store : Store) (rest views : List Job) → IsSoundJob h (with_copies copied store j)
     → AreSoundJobs h (j ∷ rest) views → AreSoundJobs h (with_copies copied store j ∷ rest) views
-served_jobs h j copied store rest views new s = record {
-  each = All-cons (IsSoundJob h) (with_copies copied store j) (rest ++ views) new (All-tail (IsSoundJob h) j (rest ++ views) s.each);
-  are_views = s.are_views;
-  ids = s.ids;
-  targets = s.targets;
-  off_drive = s.off_drive;
-  few = s.few;
-}
+served_jobs h j copied store rest views new s = search (
+  rules,
+  All-cons (IsSoundJob h) (with_copies copied store j) (rest ++ views) new (All-tail (IsSoundJob h) j (rest ++ views) s.each),
+)
 
 served_order : (j : Job) (copied : List Bool) (store : Store) (rest views : List Job) (created : List (List ℕ)) → AreInOrder (j ∷ rest) views created
     → AreInOrder (with_copies copied store j ∷ rest) views created
-served_order j copied store rest views created s = record {
-  all = s.all;
-  in_order = s.in_order;
-}
+served_order j copied store rest views created s = search rules
 
 served_users : (h : History) (j : Job) (copied : List Bool) (store : Store) (rest : List Job) (bs : List BitmapState) → AreUsers h (j ∷ rest) bs
     → AreUsers h (with_copies copied store j ∷ rest) bs
@@ -126,17 +117,7 @@ at_back_is_sound : (m : Machine) (j new : Job) (rest : List Job) → m.jobs ≡ 
 at_back_is_sound m j new rest is same sound s =
     let made : IsSoundFor m.history (record m { jobs = rest ++ with_copies new.copied new.store j ∷ [] }) =
     at_back m.history m j rest new.copied new.store is (subst (IsSoundJob m.history) same sound) s.state in
-    record {
-      history_is = s.history_is;
-      next = s.next;
-      state = subst (λ (i : Job). IsSoundFor m.history (record m { jobs = rest ++ i ∷ [] })) (sym same) made;
-      numbers = record {
-        serials = s.numbers.serials;
-        events = s.numbers.events;
-        broken_at = s.numbers.broken_at;
-        gone_at = s.numbers.gone_at;
-      };
-    }
+    search (rules, subst (λ (i : Job). IsSoundFor m.history (record m { jobs = rest ++ i ∷ [] })) (sym same) made)
 
 -- ---- what was tried
 
@@ -187,8 +168,7 @@ by_unit_is_sound t j rest m None unit is s =
     (λ _. leaving_is_sound completed (is_this j.id) m (completed_is_ending m.history) s)
 
 by_jobs_is_sound : (t : Trouble) (jobs : List Job) (m : Machine) → m.jobs ≡ jobs → IsSound m → IsSound (tick_of t jobs m).machine
-by_jobs_is_sound t [] m is s = s
-by_jobs_is_sound t (j ∷ rest) m is s = by_unit_is_sound t j rest m (next_unit j) refl is s
+by_jobs_is_sound t o m is s = grind (arith, common_steps, by_unit_is_sound)
 
 pub tick_is_sound : (t : Trouble) (m : Machine) → IsSound m → IsSound (tick t m).machine
 unfolding tick

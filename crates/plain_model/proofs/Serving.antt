@@ -1,11 +1,13 @@
 -- A state in which jobs and views have copied more.
-use Rattle.std.proofs.Common.{◌≡◌, ℕ, List, [], ◌∷◌, ◌++◌, All, IsPermutation, map, length, bytes_eq, refl, sym, ap, subst, ◌∙◌, arith}
+use Rattle.std.proofs.lemmas.Grind.{common_steps}
+use Rattle.std.proofs.Common.{rules}
+use Rattle.std.proofs.Common.{◌≡◌, ℕ, List, [], ◌∷◌, ◌++◌, All, map, length, bytes_eq, refl, sym, ap, subst, ◌∙◌, arith}
 use Rattle.std.specs.List.{list_any}
 use Rattle.std.proofs.lemmas.List.{map-append, length-map}
 use Rattle.std.proofs.lemmas.List.Elements.{All-map, All-weaker, filter_agree}
 use Rattle.bitmap_model.specs.Bitmap.{BitmapState}
 use Rattle.plain_model.specs.History.{History}
-use Rattle.plain_model.specs.Jobs.{Job, has_id}
+use Rattle.plain_model.specs.Jobs.{Job}
 use Rattle.plain_model.specs.Machine.{Machine}
 use Rattle.plain_model.specs.Sound.{IsSoundJob, IsViewJob, have_one_id, have_one_target, is_on_drive, AreSoundJobs, AreInOrder, uses, IsUsedOnce, HasItsBitmap, AreUsers, IsSoundFor}
 use Rattle.plain_model.proofs.Filters.{count_by-map}
@@ -25,23 +27,14 @@ module _ (h : History) (f : Job → Job) (is : IsCopying h f) where
   id_same : (j : Job) → (f j).id ≡ j.id
   id_same j = ap (λ (i : Job). i.id) (is.same j)
 
-  target_same : (j : Job) → (f j).target ≡ j.target
-  target_same j = ap (λ (i : Job). i.target) (is.same j)
-
-  bitmap_same : (j : Job) → (f j).bitmap ≡ j.bitmap
-  bitmap_same j = ap (λ (i : Job). i.bitmap) (is.same j)
-
   same_ids : (i j : Job) → have_one_id (f i) (f j) ≡ have_one_id i j
   same_ids i j = ap (λ (id : List ℕ). bytes_eq id (f j).id) (id_same i) ∙ ap (bytes_eq i.id) (id_same j)
 
   same_targets : (i j : Job) → have_one_target (f i) (f j) ≡ have_one_target i j
-  same_targets i j = ap (λ (target : List ℕ). bytes_eq target (f j).target) (target_same i) ∙ ap (bytes_eq i.target) (target_same j)
+  same_targets i j = search rules
 
   still_view : (j : Job) → IsViewJob j → IsViewJob (f j)
-  still_view j view = record {
-    base_is = ap (λ (i : Job). i.base) (is.same j) ∙ view.base_is;
-    free = bitmap_same j ∙ view.free;
-  }
+  still_view j view = search rules
 
   served_jobs : (jobs views : List Job) → AreSoundJobs h jobs views → AreSoundJobs h (map f jobs) (map f views)
   served_jobs jobs views s =
@@ -57,16 +50,7 @@ module _ (h : History) (f : Job → Job) (is : IsCopying h f) where
       }
 
   served_order : (jobs views : List Job) (created : List (List ℕ)) → AreInOrder jobs views created → AreInOrder (map f jobs) (map f views) created
-  served_order jobs views created s =
-      let id_of : Job → List ℕ = λ j. j.id in
-      let e : map id_of (jobs ++ views) ≡ map id_of (map f jobs ++ map f views) =
-      sym (map-map id_of f id_of id_same (jobs ++ views)) ∙ ap (map id_of) (map-append f jobs views) in
-      record {
-        all = subst (λ (ids : List (List ℕ)). IsPermutation ids created) e s.all;
-        in_order = filter_agree (λ id. list_any (has_id id) (map f views)) (λ id. list_any (has_id id) views)
-            (λ id. list_any-map (has_id id) (has_id id) f (λ j. ap (bytes_eq id) (id_same j)) views) created
-            ∙ s.in_order ∙ sym (map-map id_of f id_of id_same views);
-      }
+  served_order jobs views created s = search (rules, map-map, id_same, map-append, filter_agree, list_any-map, bytes_eq)
 
   served_users : (jobs : List Job) (bs : List BitmapState) → AreUsers h jobs bs → AreUsers h (map f jobs) bs
   served_users jobs bs s =
@@ -78,13 +62,4 @@ module _ (h : History) (f : Job → Job) (is : IsCopying h f) where
       }
 
   pub serving_keeps : (m : Machine) → IsSoundFor h m → IsSoundFor h (record m { jobs = map f m.jobs; views = map f m.views })
-  serving_keeps m s = record {
-    sized = s.sized;
-    bitmaps_are = s.bitmaps_are;
-    jobs_are = served_jobs m.jobs m.views s.jobs_are;
-    order = served_order m.jobs m.views m.created s.order;
-    users = served_users m.jobs m.bitmaps s.users;
-    exports_are = s.exports_are;
-    store_shape = s.store_shape;
-    quiet = λ broken. sym (map-append f m.jobs m.views) ∙ ap (map f) (s.quiet broken);
-  }
+  serving_keeps m s = grind (arith, common_steps, served_jobs m.jobs m.views s.jobs_are, served_order m.jobs m.views m.created s.order, served_users m.jobs m.bitmaps s.users)

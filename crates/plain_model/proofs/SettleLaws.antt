@@ -1,12 +1,14 @@
 -- What the settling of a history adds to it: writes alone, which lead to the disk that was found.
-use Rattle.std.proofs.Common.{◌≡◌, ℕ, zero, suc, ◌+◌, ◌-◌, ◌*◌, ◌/◌, ◌<◌, ◌≤◌, min, inl, inr, refl, sym, ap, subst, ◌∙◌, arith, List, [], ◌∷◌, length, map, take, drop, get_or}
+use Rattle.std.proofs.lemmas.Grind.{common_steps}
+use Rattle.std.proofs.Common.{rules}
+use Rattle.std.proofs.Common.{◌≡◌, ℕ, ◌+◌, ◌-◌, ◌*◌, ◌/◌, ◌<◌, ◌≤◌, min, inl, inr, refl, sym, ap, subst, ◌∙◌, arith, List, [], ◌∷◌, length, map, take, drop, get_or}
 use Rattle.std.specs.Prelude.{All, Any, ◌==◌, nat_lt, if◌then◌else◌, bytes_eq}
 use Rattle.std.specs.List.{range_with_len}
 use Rattle.std.proofs.lemmas.List.{ext_get_or, length-take, length-drop, get_or-take, get_or-drop, append-nil}
 use Rattle.std.proofs.lemmas.List.FromFn.{length-map-range_with_len, get_or-map-range_with_len}
 use Rattle.std.proofs.lemmas.List.Elements.{All-cons, All-nil, All-head, All-tail, All-map, All-from_get_or}
 use Rattle.std.proofs.lemmas.List.Sums.{sum_by-cons}
-use Rattle.std.proofs.lemmas.Bool.{cases_lt, cases_Bool, cond_both, cond-true, cond-false, eqb-false, ne_eqb, le-ltb, lt-ltb}
+use Rattle.std.proofs.lemmas.Bool.{cases_lt, cases_Bool, cond_both, cond-true, cond-false, eqb-false, ne_eqb}
 use Rattle.std.proofs.lemmas.Slice.Eq.{bytes_eq-Decides}
 use Rattle.disk_model.specs.Files.{overlay}
 use Rattle.disk_model.proofs.Bytes.{byte-overlay_below, byte-overlay_in, byte-overlay_above}
@@ -30,9 +32,7 @@ use Rattle.plain_model.proofs.RecordLaws.{record-more}
 
 are_writes : (disk : List ℕ) (at : ℕ) (runs : List Run) → AreWrites (map without_bytes (writes_of disk at runs))
 are_writes disk at [] = tt
-are_writes disk at (r ∷ runs) =
-    cond_both (r.flags == 1) (Wrote at (take r.length (drop at disk)) ∷ writes_of disk (at + r.length) runs) (writes_of disk (at + r.length) runs)
-    (λ es. AreWrites (map without_bytes es)) (λ _. are_writes disk (at + r.length) runs) (λ _. are_writes disk (at + r.length) runs)
+are_writes disk at (r ∷ runs) = search (rules, are_writes disk (at + r.length) runs)
 
 lie_inside : (disk : List ℕ) (at : ℕ) (runs : List Run) → at + total_of runs ≤ length disk → LieInside (length disk) (map without_bytes (writes_of disk at runs))
 lie_inside disk at [] fits = tt
@@ -48,12 +48,8 @@ pub record IsDue (disk d : List ℕ) (x at : ℕ) (runs : List Run) : Type 0 whe
   pub before : x < at → get_or d x 0 ≡ get_or disk x 0
   pub unflagged : at ≤ x → (flags_at runs (x - at) ≡ 1 → ⊥) → get_or d x 0 ≡ get_or disk x 0
 
-flags-here : (r : Run) (runs : List Run) (n : ℕ) → n < r.length → flags_at (r ∷ runs) n ≡ r.flags
-flags-here r runs n below = cond-true (nat_lt n r.length) r.flags (flags_at runs (n - r.length)) (lt-ltb n r.length below)
-
 flags-later : (r : Run) (runs : List Run) (at x : ℕ) → at + r.length ≤ x → flags_at (r ∷ runs) (x - at) ≡ flags_at runs (x - (at + r.length))
-flags-later r runs at x later =
-    cond-false (nat_lt (x - at) r.length) r.flags (flags_at runs (x - at - r.length)) (le-ltb (x - at) r.length (omega arith)) ∙ ap (flags_at runs) (omega arith)
+flags-later r runs at x later = search rules
 
 due-written : (disk d : List ℕ) (x at : ℕ) (r : Run) (runs : List Run) → x < length disk → IsDue disk d x at (r ∷ runs)
     → IsDue disk (overlay d at (take r.length (drop at disk))) x (at + r.length) runs
@@ -71,13 +67,7 @@ due-written disk d x at r runs inside due =
     }
 
 due-kept : (disk d : List ℕ) (x at : ℕ) (r : Run) (runs : List Run) → (r.flags ≡ 1 → ⊥) → IsDue disk d x at (r ∷ runs) → IsDue disk d x (at + r.length) runs
-due-kept disk d x at r runs other due = record {
-  before = λ below. elim (cases_lt x at) [
-    | inl first ↦ due.before first
-    | inr here ↦ due.unflagged here (λ flagged. other (sym (flags-here r runs (x - at) (omega arith)) ∙ flagged))
-  ];
-  unflagged = λ later none. due.unflagged (omega arith) (λ flagged. none (sym (flags-later r runs at x later) ∙ flagged));
-}
+due-kept disk d x at r runs other due = search rules
 
 byte_settled : (disk d : List ℕ) (x at : ℕ) (runs : List Run) → x < length disk → IsDue disk d x at runs → get_or (disk_after d (writes_of disk at runs)) x 0 ≡ get_or disk x 0
 byte_settled disk d x at [] inside due = elim (cases_lt x at) [ inl first ↦ due.before first | inr later ↦ due.unflagged later (λ flagged. absurd (omega (arith, flagged))) ]
@@ -119,10 +109,7 @@ abbrev due_writes : List ℕ → List ℕ → List Entry
 due_writes old disk = writes_of disk 0 (differing old disk)
 
 sectors-fit : (old disk : List ℕ) (n : ℕ) → length old ≡ length disk → length disk ≡ n * 512 → 0 + length disk ≤ length (difference old disk) * 512
-sectors-fit old disk n long whole =
-    let count : length (difference old disk) ≡ length old / 512 = length-map-range_with_len (differs old disk) 0 (length old / 512) in
-    let sectors : length old / 512 ≡ n = omega arith in
-    omega arith
+sectors-fit old disk n long whole = search (rules, length-map-range_with_len)
 
 due-inside : (old disk : List ℕ) (n : ℕ) → length old ≡ length disk → length disk ≡ n * 512 → LieInside (length disk) (map without_bytes (due_writes old disk))
 due-inside old disk n long whole =
@@ -207,17 +194,13 @@ no_difference disk = All-map (λ f. f ≡ 0) (differs disk disk) (range_with_len
 
 pub nothing_settles : (h : History) → settle h (now h) ≡ h
 unfolding settle
-nothing_settles h =
-    let none : due_writes (now h) (now h) ≡ [] =
-    no_writes (now h) 0 (differing (now h) (now h)) (unflagged-runs (record { at = 0; size = length (now h) }) (difference (now h) (now h)) (no_difference (now h))) in
-    ap (with_entries h) none ∙ ap (λ (es : List Entry). record { start = h.start; entries = es }) (append-nil h.entries)
+nothing_settles h = search (rules, no_writes, unflagged-runs, no_difference, with_entries, append-nil)
 
 -- ---- what a crash keeps
 
 -- where a sector is one of a single disk's, it is that disk's
 sector-kept : (last disk : List ℕ) (k : ℕ) → Any (λ d. sector d k ≡ sector disk k) (last ∷ []) → sector last k ≡ sector disk k
-sector-kept last disk k (zero, d, below, is, same) = rw is same
-sector-kept last disk k (suc i, d, below, is, same) = absurd (omega (arith, below))
+sector-kept last disk k o = grind (arith, common_steps)
 
 -- of one disk in whole sectors a crash leaves the disk itself
 pub last_kept : (n : ℕ) (last disk : List ℕ) → length last ≡ n * 512 → Kept (last ∷ []) disk → disk ≡ last

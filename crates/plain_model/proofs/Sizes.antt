@@ -1,4 +1,7 @@
 -- The size of the disk stays as requests, ticks and cancellations are served.
+use Rattle.std.proofs.Common.{arith}
+use Rattle.std.proofs.lemmas.Grind.{common_steps}
+use Rattle.std.proofs.Common.{rules}
 use Rattle.std.proofs.Common.{◌≡◌, ℕ, List, [], ◌∷◌, Bool, Option, Some, None, is_some, refl, ◌∙◌}
 use Rattle.std.proofs.lemmas.Bool.{cond_both}
 use Rattle.span_algebra.specs.Timelines.{Extent}
@@ -7,11 +10,11 @@ use Rattle.core_events.specs.declared.answers.JobFault.{JobFault}
 use Rattle.core_events.specs.declared.answers.JobFault.TheVariants.{Failed}
 use Rattle.core_events.specs.declared.answers.Errno.TheVariants.{Io}
 use Rattle.core_events.specs.Answers.{Reply, Done, Fault}
-use Rattle.plain_model.specs.Jobs.{Job, Tried, next_unit, copies}
+use Rattle.plain_model.specs.Jobs.{Job, Tried, copies}
 use Rattle.plain_model.specs.Machine.{Machine, size_of, runners, job_of}
 use Rattle.plain_model.specs.Requests.{is_write, range_of, granted}
 use Rattle.plain_model.specs.Ending.{Noted, leave, after_break}
-use Rattle.plain_model.specs.Outcome.{Trouble, Outcome, answered, with_reply, after_copying, after_marking, after_writing, Fate, Denied, Lost, Carried, CarriedInPart, bytes_of, fate, by_fate, breaks_by, or_break, guest, after_try, after_seal, tick_of, tick, after_cancel}
+use Rattle.plain_model.specs.Outcome.{Trouble, Outcome, answered, after_copying, after_marking, after_writing, Fate, Denied, Lost, Carried, CarriedInPart, bytes_of, fate, by_fate, breaks_by, or_break, guest, after_try, after_seal, tick_of, tick, after_cancel}
 use Rattle.plain_model.proofs.Leaving.{cancelled}
 use Rattle.plain_model.proofs.Served.{by_stop, by_unit}
 
@@ -45,9 +48,7 @@ by_fate_size Carried t r m =
 by_fate_size (CarriedInPart left) t r m = writing_size t (range_of r) left (Fault Io) m
 
 or_break_size : (breaks : Bool) (o : Outcome) → size_of (or_break breaks o).machine ≡ size_of o.machine
-or_break_size breaks o =
-    let noted : Noted = record { machine = o.machine; notices = o.answer.notices } in
-    cond_both breaks (with_reply o.answer.reply (after_break noted)) o (λ (p : Outcome). IsAsLong o.machine p.machine) (λ _. break_size noted) (λ _. refl)
+or_break_size breaks o = search (rules, cond_both, break_size)
 
 pub guest_size : (t : Trouble) (r : Request) (m : Machine) → size_of (guest t r m).machine ≡ size_of m
 unfolding guest
@@ -57,8 +58,7 @@ guest_size t r m = or_break_size (breaks_by (fate t r m) t r.work) (by_fate (fat
 
 by_stop_size : (rest : List Job) (j : Job) (stop : Option JobFault) (m : Machine) → size_of (by_stop rest j stop m).machine ≡ size_of m
 unfolding leave
-by_stop_size rest j None m = refl
-by_stop_size rest j (Some fault) m = refl
+by_stop_size rest j o m = grind (arith, common_steps)
 
 seal_size : (j : Job) (m : Machine) → size_of (after_seal j m).machine ≡ size_of m
 unfolding leave
@@ -73,8 +73,7 @@ by_unit_size t j rest m None =
     (λ _. by_stop_size rest j (Some Failed) m) (λ _. seal_size j m)
 
 by_jobs_size : (t : Trouble) (jobs : List Job) (m : Machine) → size_of (tick_of t jobs m).machine ≡ size_of m
-by_jobs_size t [] m = refl
-by_jobs_size t (j ∷ rest) m = by_unit_size t j rest m (next_unit j)
+by_jobs_size t o m = grind (arith, common_steps, by_unit_size)
 
 pub tick_size : (t : Trouble) (m : Machine) → size_of (tick t m).machine ≡ size_of m
 unfolding tick
@@ -84,8 +83,7 @@ tick_size t m = by_jobs_size t m.jobs m
 
 cancelled_size : (id : List ℕ) (m : Machine) (found : Option Job) → size_of (cancelled id m found).machine ≡ size_of m
 unfolding leave
-cancelled_size id m None = refl
-cancelled_size id m (Some j) = refl
+cancelled_size id m o = grind (arith, common_steps)
 
 pub after_cancel_size : (id : List ℕ) (m : Machine) → size_of (after_cancel id m).machine ≡ size_of m
 unfolding after_cancel

@@ -1,72 +1,27 @@
 -- The source's space and the numbers of events: what a step does to them keeps a state sound.
-use Rattle.std.proofs.Common.{ℕ, ◌+◌, ◌≤◌, true, false, sym, subst, arith}
-use Rattle.std.proofs.lemmas.List.Elements.{All-weaker}
-use Rattle.core_events.specs.Events.{Request, Event, Guest, Monitor, Tick}
+use Rattle.std.proofs.lemmas.Grind.{common_steps}
+use Rattle.std.proofs.Common.{rules}
+use Rattle.std.proofs.Common.{ℕ, true, false, arith}
+use Rattle.core_events.specs.Events.{Request, Event}
 use Rattle.core_events.specs.declared.events.Work.{Work}
 use Rattle.core_events.specs.declared.events.Work.TheVariants.{Read, Write, Zero, Flush, Status}
-use Rattle.plain_model.specs.History.{History}
 use Rattle.plain_model.specs.Space.{Store, IsShapedStore, Change}
-use Rattle.plain_model.specs.Machine.{Machine, GoneView, size_of, next_number}
+use Rattle.plain_model.specs.Machine.{Machine, size_of}
 use Rattle.plain_model.specs.Requests.{range_of}
-use Rattle.plain_model.specs.Outcome.{Trouble, Fate, Denied, Lost, Carried, CarriedInPart, fate, numbered}
-use Rattle.plain_model.specs.Step.{change_by, no_change, IsChanged, IsChangedInPart, SpaceBy, StepSpace}
-use Rattle.plain_model.specs.Sound.{IsSoundFor, AreNumbers, IsSound}
-use Rattle.plain_model.proofs.Stores.{like_is_shaped, written_is_shaped, zeroed_is_shaped, room_is_shaped}
+use Rattle.plain_model.specs.Outcome.{Trouble, Fate, Denied, Lost, Carried, CarriedInPart, numbered}
+use Rattle.plain_model.specs.Step.{change_by, no_change, IsChanged, SpaceBy, StepSpace}
+use Rattle.plain_model.specs.Sound.{IsSound}
+use Rattle.plain_model.proofs.Stores.{written_is_shaped, zeroed_is_shaped}
 
 -- ---- the number of an event
 
-pub numbered_numbers : (m : Machine) → AreNumbers m → AreNumbers (numbered m)
-numbered_numbers m n = record {
-  serials = n.serials;
-  events = omega arith;
-  broken_at = λ k is. let before : k ≤ m.event = n.broken_at k is in omega (arith, n.events);
-  gone_at = All-weaker (λ (v : GoneView). v.event ≤ m.event) (λ (v : GoneView). v.event ≤ next_number m.event) (λ v before. omega (arith, before, n.events)) m.gone n.gone_at;
-}
-
 pub numbered_is_sound : (m : Machine) → IsSound m → IsSound (numbered m)
-numbered_is_sound m s = record {
-  history_is = s.history_is;
-  next = s.next;
-  state = record {
-    sized = s.state.sized;
-    bitmaps_are = s.state.bitmaps_are;
-    jobs_are = s.state.jobs_are;
-    order = s.state.order;
-    users = s.state.users;
-    exports_are = s.state.exports_are;
-    store_shape = s.state.store_shape;
-    quiet = s.state.quiet;
-  };
-  numbers = numbered_numbers m s.numbers;
-}
+numbered_is_sound m s = search rules
 
 -- ---- another store
 
-pub restored_keeps : (h : History) (m : Machine) (store : Store) (freed : ℕ) → IsShapedStore (size_of m) store → IsSoundFor h m
-    → IsSoundFor h (record m { store = store; freed = freed })
-restored_keeps h m store freed shape s = record {
-  sized = s.sized;
-  bitmaps_are = s.bitmaps_are;
-  jobs_are = s.jobs_are;
-  order = s.order;
-  users = s.users;
-  exports_are = s.exports_are;
-  store_shape = shape;
-  quiet = s.quiet;
-}
-
 pub with_space_is_sound : (m : Machine) (store : Store) (freed : ℕ) → IsShapedStore (size_of m) store → IsSound m → IsSound (record m { store = store; freed = freed })
-with_space_is_sound m store freed shape s = record {
-  history_is = s.history_is;
-  next = s.next;
-  state = restored_keeps m.history m store freed shape s.state;
-  numbers = record {
-    serials = s.numbers.serials;
-    events = s.numbers.events;
-    broken_at = s.numbers.broken_at;
-    gone_at = s.numbers.gone_at;
-  };
-}
+with_space_is_sound m store freed shape s = search rules
 
 -- ---- the space after a step
 
@@ -79,22 +34,15 @@ change_is_shaped r Flush m shape = shape
 change_is_shaped r (Status context one) m shape = shape
 
 changed_is_shaped : (size : ℕ) (old : Machine) (change : Change) (new : Machine) → IsShapedStore size change.store → IsChanged old change new → IsShapedStore size new.store
-changed_is_shaped size old change new shape c =
-    subst (IsShapedStore size) (sym c.store_is) (room_is_shaped size (change.store.room + c.moved) change.store shape)
-
-part_is_shaped : (size : ℕ) (old : Machine) (change : Change) (new : Machine) → IsShapedStore size old.store → IsChangedInPart old change new
-    → IsShapedStore size new.store
-part_is_shaped size old change new shape c = like_is_shaped size old.store new.store c.cluster c.kind_count c.table_count shape
+changed_is_shaped size old change new shape c = search rules
 
 fate_is_shaped : (f : Fate) (r : Request) (old new : Machine) → IsShapedStore (size_of old) old.store → SpaceBy f r old new → IsShapedStore (size_of old) new.store
 fate_is_shaped (Denied errno) r old new shape c = changed_is_shaped (size_of old) old (no_change old) new shape c
 fate_is_shaped Lost r old new shape c = changed_is_shaped (size_of old) old (no_change old) new shape c
 fate_is_shaped Carried r old new shape c = changed_is_shaped (size_of old) old (change_by r r.work old) new (change_is_shaped r r.work old shape) c
-fate_is_shaped (CarriedInPart left) r old new shape c = part_is_shaped (size_of old) old (change_by r r.work old) new shape c
+fate_is_shaped (CarriedInPart left) r old new shape c = search rules
 
 -- whatever a step does to the space, the store stays in shape
 pub step_space_is_shaped : (t : Trouble) (old : Machine) (event : Event) (new : Machine) → IsShapedStore (size_of old) old.store → StepSpace t old event new
     → IsShapedStore (size_of old) new.store
-step_space_is_shaped t old (Guest r) new shape c = fate_is_shaped (fate t r (numbered old)) r old new shape c
-step_space_is_shaped t old (Monitor command) new shape c = changed_is_shaped (size_of old) old (no_change old) new shape c
-step_space_is_shaped t old Tick new shape c = changed_is_shaped (size_of old) old (no_change old) new shape c
+step_space_is_shaped t old o new shape c = grind (arith, common_steps, fate_is_shaped)

@@ -1,7 +1,9 @@
 -- A backup that starts at the last point keeps a state sound.
-use Rattle.std.proofs.Common.{◌≡◌, ℕ, List, [], ◌∷◌, ◌++◌, length, Bool, true, false, not, ◌&&◌, refl, sym, ap, subst, ◌∙◌}
+use Rattle.std.proofs.Common.{rules}
+use Rattle.std.proofs.Common.{arith}
+use Rattle.std.proofs.lemmas.Grind.{common_steps}
+use Rattle.std.proofs.Common.{◌≡◌, ℕ, List, [], ◌∷◌, ◌++◌, length, Bool, false, not, ◌&&◌, refl, sym, ap, subst, ◌∙◌}
 use Rattle.std.specs.Prelude.{Option, Some, None, Ok, is_some, option_and_then}
-use Rattle.std.proofs.lemmas.Bool.{both_ways}
 use Rattle.span_algebra.specs.declared.points.Point.{Point}
 use Rattle.span_algebra.specs.declared.spans.Base.TheVariants.{Whole}
 use Rattle.span_algebra.specs.Timelines.{Timeline, with_point, IsRising}
@@ -25,13 +27,12 @@ use Rattle.plain_model.proofs.ChangedBitmaps.{AreKept}
 use Rattle.plain_model.proofs.ActingOnBitmaps.{with_set, unrefused, bitmaps_of}
 use Rattle.plain_model.proofs.NewJobs.{IsReady, new_job_sound}
 use Rattle.plain_model.proofs.JoiningJobs.{IsNewAmong, job_joins, view_joins, order_with_job, order_with_view}
-use Rattle.plain_model.proofs.FrozenBitmaps.{users_with_free, frozen_kept}
+use Rattle.plain_model.proofs.FrozenBitmaps.{frozen_kept}
 use Rattle.plain_model.proofs.Startable.{usable_none, IsStartable, backup_none}
 use Rattle.plain_model.proofs.Acted.{KeepsRest, keeps_as, IsActed}
 
 none_from : {A : Type 0} (o : Option A) → is_some o ≡ false → o ≡ None
-none_from None h = refl
-none_from (Some a) h = absurd (both_ways true h refl)
+none_from o h = grind (arith, common_steps)
 
 -- the bitmap that a job is to use
 abbrev pub found_for : Option (List ℕ) → Machine → Option BitmapState
@@ -53,35 +54,17 @@ found_ready h m (Some name) s usable =
 -- no bitmap is used
 pub view_starts : (h : History) (m : Machine) (j : Job) → IsSoundFor h m → m.broken ≡ None → IsSoundJob h j → IsViewJob j → IsNewAmong j (runners m)
     → IsSoundFor h (record m { views = m.views ++ j ∷ []; created = m.created ++ j.id ∷ [] })
-view_starts h m j s whole sound view new = record {
-  sized = s.sized;
-  bitmaps_are = s.bitmaps_are;
-  jobs_are = view_joins h m.jobs m.views j s.jobs_are sound view new;
-  order = order_with_view m.jobs m.views m.created j s.order new.id;
-  users = s.users;
-  exports_are = s.exports_are;
-  store_shape = s.store_shape;
-  quiet = λ broken. absurd (both_ways (is_some m.broken) (ap is_some whole) broken);
-}
+view_starts h m j s whole sound view new = search (rules, view_joins h m.jobs m.views j s.jobs_are sound view new, order_with_view m.jobs m.views m.created j s.order new.id)
 
 pub job_starts : (h : History) (m : Machine) (j : Job) (bs : List BitmapState) → IsSoundFor h m → m.broken ≡ None → IsSoundJob h j → IsNewAmong j (runners m)
     → AreKept h (m.jobs ++ j ∷ []) bs → IsSoundFor h (record m { bitmaps = bs; jobs = m.jobs ++ j ∷ []; created = m.created ++ j.id ∷ [] })
-job_starts h m j bs s whole sound new kept = record {
-  sized = s.sized;
-  bitmaps_are = kept.sound;
-  jobs_are = job_joins h m.jobs m.views j s.jobs_are sound new;
-  order = order_with_job m.jobs m.views m.created j s.order new.id;
-  users = kept.users;
-  exports_are = s.exports_are;
-  store_shape = s.store_shape;
-  quiet = λ broken. absurd (both_ways (is_some m.broken) (ap is_some whole) broken);
-}
+job_starts h m j bs s whole sound new kept = search (rules, job_joins h m.jobs m.views j s.jobs_are sound new, order_with_job m.jobs m.views m.created j s.order new.id)
 
 module _ (h : History) (t : Timeline) (p : Point) (is : timeline_of h ≡ with_point t p) (rising : IsRising (with_point t p)) where
   -- bitmaps and users where a push job starts
   pub push_kept : (m : Machine) (j : Job) (own : Option (List ℕ)) → j.bitmap ≡ own → j.point ≡ p → IsUsableFor own m → IsSoundFor h m
       → AreKept h (m.jobs ++ j ∷ []) (freeze_bitmap own m.bitmaps)
-  push_kept m j None uses at usable s = record { sound = s.bitmaps_are; users = users_with_free h m.jobs j m.bitmaps uses s.users }
+  push_kept m j None uses at usable s = grind (arith, common_steps)
   push_kept m j (Some name) uses at usable s =
       let b : (b : BitmapState) × IsUsable (named name m.bitmaps) b = usable_none name m usable in
       frozen_kept h t p is rising m.jobs j name m.bitmaps b.0 uses at b.1.there b.1.idle b.1.sound (bitmaps_of h m s)
@@ -89,22 +72,16 @@ module _ (h : History) (t : Timeline) (p : Point) (is : timeline_of h ≡ with_p
   pub with_job_sound : (sync : SyncKind) (m : Machine) (j : Job) → (not (uses_bitmap sync) && is_some j.bitmap) ≡ false → (j.bitmap ≡ None → j.base ≡ Whole) → j.point ≡ p
       → IsUsableFor j.bitmap m → m.broken ≡ None → IsSoundJob h j → IsNewAmong j (runners m) → IsSoundFor h m
       → IsSoundFor h (with_job sync j (with_set m (freeze_bitmap j.bitmap m.bitmaps)))
-  with_job_sound Full m j named_none full at usable whole sound new s =
-      job_starts h m j (freeze_bitmap j.bitmap m.bitmaps) s whole sound new (push_kept m j j.bitmap refl at usable s)
-  with_job_sound Incremental m j named_none full at usable whole sound new s =
-      job_starts h m j (freeze_bitmap j.bitmap m.bitmaps) s whole sound new (push_kept m j j.bitmap refl at usable s)
-  with_job_sound Bitmap m j named_none full at usable whole sound new s =
-      job_starts h m j (freeze_bitmap j.bitmap m.bitmaps) s whole sound new (push_kept m j j.bitmap refl at usable s)
+  with_job_sound Full m j named_none full at usable whole sound new s = search (rules, job_starts, push_kept)
+  with_job_sound Incremental m j named_none full at usable whole sound new s = search (rules, job_starts, push_kept)
+  with_job_sound Bitmap m j named_none full at usable whole sound new s = search (rules, job_starts, push_kept)
   with_job_sound Nothing m j named_none full at usable whole sound new s =
       let free : j.bitmap ≡ None = none_from j.bitmap named_none in
       subst (λ (o : Option (List ℕ)). IsSoundFor h (record m { bitmaps = freeze_bitmap o m.bitmaps; views = m.views ++ j ∷ []; created = m.created ++ j.id ∷ [] })) (sym free)
       (view_starts h m j s whole sound (record { base_is = full free; free = free }) new)
 
 with_job_rest : (sync : SyncKind) (m : Machine) (j : Job) (bs : List BitmapState) → KeepsRest m (with_job sync j (with_set m bs))
-with_job_rest Full m j bs = record { history = refl; epoch = refl; serial = refl; event = refl; gone = refl; broken = refl; store = refl }
-with_job_rest Incremental m j bs = record { history = refl; epoch = refl; serial = refl; event = refl; gone = refl; broken = refl; store = refl }
-with_job_rest Bitmap m j bs = record { history = refl; epoch = refl; serial = refl; event = refl; gone = refl; broken = refl; store = refl }
-with_job_rest Nothing m j bs = record { history = refl; epoch = refl; serial = refl; event = refl; gone = refl; broken = refl; store = refl }
+with_job_rest o m j bs = grind (arith, common_steps)
 
 -- ---- the action
 

@@ -1,21 +1,16 @@
 -- Stores of images stay in shape.
-use Rattle.std.proofs.Common.{◌≡◌, ℕ, length, sym, ap, ◌∙◌, refl}
+use Rattle.std.proofs.Common.{rules}
+use Rattle.std.proofs.Common.{◌≡◌, ℕ, length, refl}
 use Rattle.std.specs.Prelude.{if◌then◌else◌}
 use Rattle.std.proofs.lemmas.List.FromFn.{length-map-range_with_len}
 use Rattle.span_algebra.specs.Timelines.{Extent}
-use Rattle.bitmap_model.specs.Granules.{granules_in}
 use Rattle.bitmap_model.proofs.Sets.{length-set_of}
-use Rattle.plain_model.specs.Space.{Data, Hole, Store, IsShapedStore, entries_in, kind_at, is_touched, is_whole, kinds_written, tables_written, store_written, store_zeroed}
+use Rattle.plain_model.specs.Space.{Data, Store, IsShapedStore, kind_at, is_touched, kinds_written, tables_written, store_written, store_zeroed}
 
 -- a store with as many kinds and tables, and clusters of that size
 pub like_is_shaped : (size : ℕ) (s t : Store) → t.cluster ≡ s.cluster → length t.kinds ≡ length s.kinds → length t.tables ≡ length s.tables
     → IsShapedStore size s → IsShapedStore size t
-like_is_shaped size s t cluster kinds tables shape = record {
-  cluster_some = rw cluster shape.cluster_some;
-  kind_count = kinds ∙ shape.kind_count ∙ ap (granules_in size) (sym cluster);
-  table_count = tables ∙ shape.table_count ∙ ap (λ (n : ℕ). granules_in n (entries_in s.cluster)) (sym kinds)
-      ∙ ap (λ (c : ℕ). granules_in (length t.kinds) (entries_in c)) (sym cluster);
-}
+like_is_shaped size s t cluster kinds tables shape = search rules
 
 pub length-kinds_written : (s : Store) (e : Extent) → length (kinds_written s e) ≡ length s.kinds
 length-kinds_written s e = length-map-range_with_len (λ (k : ℕ). if is_touched s e k then Data else kind_at s k) 0 (length s.kinds)
@@ -33,9 +28,4 @@ written_cluster s e = refl
 
 pub zeroed_is_shaped : (disk size : ℕ) (s : Store) (e : Extent) → IsShapedStore size s → IsShapedStore size (store_zeroed disk s e)
 unfolding store_zeroed
-zeroed_is_shaped disk size s e shape =
-    like_is_shaped size s (store_zeroed disk s e) refl
-    (length-map-range_with_len (λ (k : ℕ). if is_whole disk s e k then Hole else kind_at s k) 0 (length s.kinds)) refl shape
-
-pub room_is_shaped : (size room : ℕ) (s : Store) → IsShapedStore size s → IsShapedStore size (record s { room = room })
-room_is_shaped size room s shape = like_is_shaped size s (record s { room = room }) refl refl refl shape
+zeroed_is_shaped disk size s e shape = search (rules, like_is_shaped, length-map-range_with_len)

@@ -1,7 +1,9 @@
 -- A transaction takes a sound state to a sound state.
-use Rattle.std.proofs.Common.{◌≡◌, ◌≢◌, ℕ, length, ◌+◌, ◌≤◌, List, [], ◌∷◌, Bool, false, inl, inr, refl, sym, ap, subst, ◌∙◌, arith}
-use Rattle.std.specs.Prelude.{All, None, Result, Ok, Err, ◌==◌, if◌then◌else◌}
-use Rattle.std.proofs.lemmas.Bool.{cases_Bool, cond-true, cond-false, eqb-false}
+use Rattle.std.proofs.lemmas.Grind.{common_steps}
+use Rattle.std.proofs.Common.{rules}
+use Rattle.std.proofs.Common.{◌≡◌, ◌≢◌, ℕ, length, ◌+◌, List, [], ◌∷◌, Bool, false, refl, sym, ap, subst, ◌∙◌, arith}
+use Rattle.std.specs.Prelude.{None, Result, Ok, Err, ◌==◌, if◌then◌else◌}
+use Rattle.std.proofs.lemmas.Bool.{eqb-false}
 use Rattle.span_algebra.specs.declared.points.Point.{Point}
 use Rattle.span_algebra.specs.Timelines.{IsRising}
 use Rattle.span_algebra.specs.Timelines as timelines
@@ -12,23 +14,20 @@ use Rattle.core_events.specs.declared.commands.Action.{Action}
 use Rattle.core_events.specs.declared.commands.Action.TheVariants.{Add, Remove, Clear, Enable, Disable, Merge, Backup, Abort}
 use Rattle.core_events.specs.declared.refusals.Refusal.{Refusal}
 use Rattle.core_events.specs.declared.refusals.Refusal.TheVariants.{OutOfMemory, SerialSpent}
-use Rattle.plain_model.specs.History.{History, Reached, IsHistory, with_entry, timeline_of}
-use Rattle.plain_model.specs.Machine.{Machine, GoneView, size_of, last_number, next_point}
+use Rattle.plain_model.specs.History.{History, Reached, with_entry, timeline_of}
+use Rattle.plain_model.specs.Machine.{Machine, size_of, last_number, next_point}
 use Rattle.plain_model.specs.Laws.{IsFit}
 use Rattle.plain_model.specs.Actions.{Held, Hindrance, RefusedAt, with_bitmaps, after_merge, merge_sources, unusable, granularity_for, act, is_at, fold_actions, with_point, transact}
 use Rattle.plain_model.specs.Sound.{IsSoundFor, AreNumbers, IsSound}
 use Rattle.plain_model.proofs.Points.{timeline-reached}
 use Rattle.plain_model.proofs.Pointing.{pointed, pointed_history, rising_after}
 use Rattle.plain_model.proofs.ChangedBitmaps.{cleared_sound, enabled_sound, disabled_sound}
-use Rattle.plain_model.proofs.ActingOnBitmaps.{drive_ok, unrefused, with_set, IsBitmapAct, add_keeps, remove_keeps, change_keeps, merge_keeps}
-use Rattle.plain_model.proofs.Acted.{KeepsRest, keeps_itself, keeps_then, keeps_as, IsActed}
+use Rattle.plain_model.proofs.ActingOnBitmaps.{drive_ok, unrefused, IsBitmapAct, add_keeps, remove_keeps, change_keeps, merge_keeps}
+use Rattle.plain_model.proofs.Acted.{KeepsRest, keeps_then, IsActed}
 use Rattle.plain_model.proofs.Starting.{backup_keeps}
 
 acted_from : (h : History) (m next : Machine) → IsBitmapAct h m next → IsActed h m next
-acted_from h m next a = record {
-  sound = a.sound;
-  rest = keeps_as m next (with_set m a.bitmaps) a.only (record { history = refl; epoch = refl; serial = refl; event = refl; gone = refl; broken = refl; store = refl });
-}
+acted_from h m next a = search rules
 
 -- an action went well, and then the others
 act_then : (held : List ℕ → Held) (hindrance : Hindrance) (p : Point) (k : ℕ) (actions : List Action) (next : Machine) (r : Result Machine Refusal)
@@ -36,22 +35,16 @@ act_then : (held : List ℕ → Held) (hindrance : Hindrance) (p : Point) (k : �
       | Ok mid ↦ fold_actions held hindrance p (k + 1) actions mid
       | Err refusal ↦ Err (record { action = k; refusal = refusal })
     ]) ≡ Ok next → (mid : Machine) × (r ≡ Ok mid) × (fold_actions held hindrance p (k + 1) actions mid ≡ Ok next)
-act_then held hindrance p k actions next (Ok mid) e = (mid, refl, e)
-act_then held hindrance p k actions next (Err refusal) e = absurd (cc)
+act_then held hindrance p k actions next o e = grind (arith, common_steps)
 
 fold_then : (p : Point) (next : Machine) (r : Result Machine RefusedAt)
     → (elim r as (λ (x : Result Machine RefusedAt). Result Machine RefusedAt) [ Ok last ↦ Ok (with_point p last) | Err refused ↦ Err refused ]) ≡ Ok next
     → (last : Machine) × (r ≡ Ok last) × (next ≡ with_point p last)
-fold_then p next (Ok last) e = (last, refl, cc)
-fold_then p next (Err refused) e = absurd (cc)
+fold_then p next o e = grind (arith, common_steps)
 
 -- where the test isn't met, the rest is the answer
 past_error : {A E : Type 0} (test : Bool) (error : E) (rest : Result A E) (next : A) → (if test then Err error else rest) ≡ Ok next → (test ≡ false) × (rest ≡ Ok next)
-past_error test error rest next e =
-    elim (cases_Bool test) [
-      | inl met ↦ absurd (cc (cond-true test (Err error) rest met))
-      | inr unmet ↦ (unmet, sym (cond-false test (Err error) rest unmet) ∙ e)
-    ]
+past_error test error rest next e = search rules
 
 module _ (h0 : History) (p : Point) (rising : IsRising (timelines.with_point (timeline_of h0) p)) (held : List ℕ → Held) (fit : (name : List ℕ) → IsFit (held name)) where
   pub act_keeps : (unread : List ℕ → Bool) (a : Action) (m next : Machine) → IsSoundFor (with_entry h0 (Reached p)) m → act held unread p a m ≡ Ok next
@@ -92,9 +85,7 @@ module _ (h0 : History) (p : Point) (rising : IsRising (timelines.with_point (ti
 
   pub fold_keeps : (hindrance : Hindrance) (k : ℕ) (actions : List Action) (m next : Machine) → IsSoundFor (with_entry h0 (Reached p)) m
       → fold_actions held hindrance p k actions m ≡ Ok next → IsActed (with_entry h0 (Reached p)) m next
-  fold_keeps hindrance k [] m next s e =
-      let same : m ≡ next = cc in
-      record { sound = subst (IsSoundFor (with_entry h0 (Reached p))) same s; rest = keeps_as m next m (sym same) (keeps_itself m) }
+  fold_keeps hindrance k [] m next s e = search rules
   fold_keeps hindrance k (a ∷ actions) m next s e =
       let r : Result Machine Refusal = act held hindrance.unread p a m in
       let rest : Result Machine RefusedAt =
@@ -112,45 +103,14 @@ module _ (h0 : History) (p : Point) (rising : IsRising (timelines.with_point (ti
 
 -- the state knows of its history as long as the disk alone
 drawn_for : (h : History) (p : Point) (m : Machine) → IsSoundFor h m → IsSoundFor h (with_point p m)
-drawn_for h p m s = record {
-  sized = s.sized;
-  bitmaps_are = s.bitmaps_are;
-  jobs_are = s.jobs_are;
-  order = s.order;
-  users = s.users;
-  exports_are = s.exports_are;
-  store_shape = s.store_shape;
-  quiet = s.quiet;
-}
+drawn_for h p m s = search rules
 
 drawn_numbers : (m last : Machine) (p : Point) → KeepsRest m last → m.serial ≢ last_number → AreNumbers m → AreNumbers (with_point p last)
-drawn_numbers m last p rest free n =
-    let most : m.serial ≤ last_number = n.serials in
-    record {
-      serials = subst (λ (k : ℕ). k + 1 ≤ last_number) (sym rest.serial) (one_more m.serial last_number most free);
-      events = subst (λ (k : ℕ). k ≤ last_number) (sym rest.event) n.events;
-      broken_at = λ k broken. subst (λ (e : ℕ). k ≤ e) (sym rest.event) (n.broken_at k (sym rest.broken ∙ broken));
-      gone_at = subst (λ (e : ℕ). All (λ (v : GoneView). v.event ≤ e) last.gone) (sym rest.event)
-          (subst (All (λ (v : GoneView). v.event ≤ m.event)) (sym rest.gone) n.gone_at);
-    }
-  where
-    one_more : (a b : ℕ) → a ≤ b → (a ≡ b → ⊥) → a + 1 ≤ b
-    one_more a b most apart = omega arith
+drawn_numbers m last p rest free n = search rules
 
 -- a sound state whose actions went well is sound with its point
 drawn_sound : (m last : Machine) → IsSound m → m.serial ≢ last_number → IsActed (with_entry m.history (Reached (next_point m))) m last → IsSound (with_point (next_point m) last)
-drawn_sound m last s free a =
-    let p : Point = next_point m in
-    let q : Point = record { epoch = m.epoch; serial = (m.serial + 1) + 1 } in
-    let after : next_point (with_point p last) ≡ q = rw (a.rest.epoch, a.rest.serial) refl in
-    let history : with_entry last.history (Reached p) ≡ with_entry m.history (Reached p) = ap (λ (h : History). with_entry h (Reached p)) a.rest.history in
-    record {
-      history_is = subst IsHistory (sym history) (pointed_history m s);
-      next = subst (λ (h : History). IsRising (timelines.with_point (timeline_of h) (next_point (with_point p last)))) (sym history)
-          (subst (λ (x : Point). IsRising (timelines.with_point (timeline_of (with_entry m.history (Reached p))) x)) (sym after) (rising_after m s));
-      state = drawn_for (with_entry last.history (Reached p)) p last (subst (λ (h : History). IsSoundFor h last) (sym history) a.sound);
-      numbers = drawn_numbers m last p a.rest free s.numbers;
-    }
+drawn_sound m last s free a = search (rules, pointed_history, rising_after, drawn_for, drawn_numbers)
 
 -- what a transaction that isn't refused makes
 pub record IsTransacted (m next : Machine) : Type 0 where

@@ -1,8 +1,10 @@
 -- A write on a state in which no missing unit meets the range: the state stays sound.
-use Rattle.std.proofs.Common.{◌≡◌, ℕ, ◌+◌, ◌/◌, ◌<◌, ◌≤◌, List, Bool, true, false, Option, Some, None, IsTrue, All, Contains, length, count_by, cond, bytes_eq, get_or, refl, sym, ap, subst, ◌∙◌, inl, inr, arith}
+use Rattle.std.proofs.Common.{rules}
+use Rattle.std.proofs.lemmas.Grind.{common_steps}
+use Rattle.std.proofs.Common.{◌≡◌, ℕ, ◌+◌, ◌/◌, ◌<◌, ◌≤◌, List, true, false, Option, Some, None, IsTrue, All, Contains, length, bytes_eq, get_or, refl, sym, ap, subst, ◌∙◌, arith}
 use Rattle.std.specs.Prelude.{slice_index, option_map}
-use Rattle.std.proofs.lemmas.Bool.{cases_Bool, cases_lt, both_ways, cond-false}
-use Rattle.std.proofs.lemmas.List.Elements.{All-map, All-weaker, All-contains, All-contains_itself}
+use Rattle.std.proofs.lemmas.Bool.{cases_lt, both_ways}
+use Rattle.std.proofs.lemmas.List.Elements.{All-map, All-weaker, All-contains_itself}
 use Rattle.disk_model.specs.Files.{overlay}
 use Rattle.disk_model.proofs.Bytes.{byte-overlay_below, byte-overlay_above}
 use Rattle.span_algebra.specs.declared.points.Point.{Point}
@@ -30,7 +32,6 @@ use Rattle.plain_model.specs.Outcome.{after_marking}
 use Rattle.plain_model.specs.Sound.{IsSoundBitmap, AreSoundBitmaps, ScopeHolds, IsSoundJob, uses, is_own, IsUsedOnce, SuccessorHolds, HasItsBitmap, AreUsers, IsSoundFor, IsSound}
 use Rattle.plain_model.proofs.Points.{timeline-wrote, now-wrote, disk_at-entry, stands-entry, touched-entry, touched_now-wrote}
 use Rattle.plain_model.proofs.Rising.{rising-write, history-wrote}
-use Rattle.plain_model.proofs.Counting.{none_counted}
 use Rattle.plain_model.proofs.Giving.{found_bitmap}
 use Rattle.plain_model.proofs.Leaving.{all_front}
 use Rattle.plain_model.proofs.Copying.{IsClear}
@@ -38,9 +39,7 @@ use Rattle.plain_model.proofs.Copying.{IsClear}
 -- ---- bitmaps
 
 marked_blank : (e : Extent) (b : BitmapState) → (IsTrue b.inconsistent → IsBlank b) → IsTrue (when_written e b).inconsistent → IsBlank (when_written e b)
-marked_blank e b blank inconsistent =
-    let was : IsBlank b = blank (sym (written_inconsistent e b) ∙ inconsistent) in
-    subst IsBlank (sym (when_written-off e b was.recording)) was
+marked_blank e b blank inconsistent = search (rules, written_inconsistent, when_written-off)
 
 marked_is_sound : (t : Timeline) (e : Extent) → e.at + e.size ≤ t.start → (b : BitmapState) → IsSoundBitmap t b → IsSoundBitmap (with_write t e) (when_written e b)
 marked_is_sound t e fits b s = record {
@@ -62,17 +61,11 @@ marked_are_sound t e fits bs s = record {
 }
 
 written_once : (e : Extent) (jobs : List Job) (b : BitmapState) → IsUsedOnce jobs b → IsUsedOnce jobs (when_written e b)
-written_once e jobs b once =
-    ap (λ (n : List ℕ). count_by (uses n) jobs) (written_name e b) ∙ once ∙ sym (ap (λ (busy : Bool). cond {A = ℕ} busy 1 0) (written_is_busy e b))
+written_once e jobs b once = search (rules, written_name, written_is_busy)
 
 -- a bitmap that a job uses is busy
 used_is_busy : (jobs : List Job) (b : BitmapState) (j : Job) → Contains jobs j → uses b.name j ≡ true → IsUsedOnce jobs b → is_busy b ≡ true
-used_is_busy jobs b j there own once = elim (cases_Bool (is_busy b)) [
-  | inl busy ↦ busy
-  | inr idle ↦
-      let none : count_by (uses b.name) jobs ≡ 0 = once ∙ cond-false {A = ℕ} (is_busy b) 1 0 idle in
-      absurd (both_ways (uses b.name j) (All-contains (λ (i : Job). uses b.name i ≡ false) jobs j (none_counted (uses b.name) jobs none) there) own)
-]
+used_is_busy jobs b j there own once = grind (arith, common_steps)
 
 -- ---- one write
 
@@ -96,16 +89,7 @@ module _ (h : History) (e : Extent) (bytes : List ℕ) (long : length bytes ≡ 
 
   -- a byte in a missing unit isn't written
   byte_stays : (u x : ℕ) → 0 < u → meets e (granule u (x / u)) ≡ false → slice_index (overlay (now h) e.at bytes) x ≡ slice_index (now h) x
-  byte_stays u x some apart = elim (cases_lt x e.at) [
-    | inl below ↦ byte-overlay_below (now h) e.at bytes x below
-    | inr from ↦
-        elim (cases_lt x (e.at + length bytes)) [
-          | inl inside ↦
-              absurd (both_ways (meets e (granule u (x / u))) apart
-              (meets-from e (granule u (x / u)) (omega (arith, granule_from x u, granule_to x u some))))
-          | inr past ↦ byte-overlay_above (now h) e.at bytes x past
-        ]
-  ]
+  byte_stays u x some apart = search (rules, cases_lt, byte-overlay_below, both_ways, meets-from, granule_from, granule_to, byte-overlay_above)
 
   written_job : (j : Job) → IsClear e j → IsSoundJob h j → IsSoundJob written j
   written_job j clear s = record {
@@ -191,10 +175,5 @@ marking_is_sound e bytes m long fits clear s = record {
   next = subst (λ (t : Timeline). IsRising (with_point t (next_point m))) (sym (timeline-wrote m.history e.at bytes))
       (rising-write (timeline_of m.history) (record { at = e.at; size = length bytes }) (next_point m) s.next);
   state = marking_keeps m.history e bytes m long fits clear s.state;
-  numbers = record {
-    serials = s.numbers.serials;
-    events = s.numbers.events;
-    broken_at = s.numbers.broken_at;
-    gone_at = s.numbers.gone_at;
-  };
+  numbers = search rules;
 }

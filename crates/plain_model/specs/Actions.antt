@@ -20,13 +20,13 @@ use Rattle.core_events.specs.declared.commands.Action.{Action}
 use Rattle.core_events.specs.declared.commands.Action.TheVariants.{Add, Remove, Clear, Enable, Disable, Merge, Backup, Abort}
 use Rattle.core_events.specs.declared.refusals.Refusal.{Refusal}
 use Rattle.core_events.specs.declared.refusals.Refusal.TheVariants.{SerialSpent, NodeUnknown, BadName, NameTaken, TooMany, BadGranularity, TooFine, NoSuchBitmap, Busy, Inconsistent, JobTaken, TooManyJobs, BitmapNeeded, BitmapForbidden, SourceBroken, TargetBusy, DeviceFailed, TargetMissing, TargetFault, TargetUsed, OtherSize, Aborted, OutOfMemory}
+use Rattle.monitor_model.specs.Commands.{first_of}
 use Rattle.script_model.specs.Lines.{drive}
 use Rattle.script_model.specs.Recording.{is_drive}
 use Rattle.plain_model.specs.History.{with_entry, Reached}
 use Rattle.plain_model.specs.Space.{Store}
 use Rattle.plain_model.specs.Jobs.{Job, has_id}
 use Rattle.plain_model.specs.Machine.{Machine, size_of, last_number, next_point, runners, has_target}
-use Rattle.plain_model.specs.Requests.{first_of}
 
 -- ---- what the start of a job meets
 
@@ -134,9 +134,9 @@ most_jobs = 8
 abbrev pub is_target_busy : List ℕ → Machine → Bool
 is_target_busy target m = is_drive target || list_any (has_target target) (runners m)
 
--- why a backup isn't started, in the order of the tests
-unfoldable pub backup_refusal : (List ℕ → Held) → (List ℕ → Bool) → BackupArgs → Machine → Option Refusal
-backup_refusal held unread a m = first_of (
+-- the tests of a backup, in their order
+abbrev pub backup_tests : (List ℕ → Held) → (List ℕ → Bool) → BackupArgs → Machine → List (Option Refusal)
+backup_tests held unread a m =
     then_some (not (is_drive a.device)) (NodeUnknown a.device)
     ∷ then_some (list_any (has_id a.job) (runners m)) (JobTaken a.job)
     ∷ then_some (nat_le most_jobs (length (runners m))) (TooManyJobs most_jobs)
@@ -148,7 +148,11 @@ backup_refusal held unread a m = first_of (
     ∷ then_some (is_target_busy a.target m) (TargetBusy a.target)
     ∷ then_some (is_file_name a.target && unread a.target) (DeviceFailed a.target)
     ∷ target_refusal (size_of m) a.target (held a.target)
-    ∷ [])
+    ∷ []
+
+-- why a backup isn't started
+unfoldable pub backup_refusal : (List ℕ → Held) → (List ℕ → Bool) → BackupArgs → Machine → Option Refusal
+backup_refusal held unread a m = first_of (backup_tests held unread a m)
 
 -- all units, or those that meet a granule of the bitmap
 abbrev pub scope_for : ℕ → ℕ → Option BitmapState → List Bool

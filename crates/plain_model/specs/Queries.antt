@@ -17,7 +17,7 @@ use Rattle.script_model.specs.Lines.{drive}
 use Rattle.script_model.specs.Recording.{is_drive}
 use Rattle.plain_model.specs.Jobs.{Job, total_of, progress_of}
 use Rattle.plain_model.specs.Machine.{Machine, size_of, runners, live_view}
-use Rattle.plain_model.specs.Requests.{first_of}
+use Rattle.monitor_model.specs.Commands.{first_of}
 
 -- ---- lists
 
@@ -62,16 +62,20 @@ abbrev pub absent_bitmap : List SourceName → Machine → Option Refusal
 absent_bitmap [] m = None
 absent_bitmap (s ∷ sources) m = elim (named s.name m.bitmaps) [ None ↦ Some (NoSuchBitmap s.name) | Some b ↦ absent_bitmap sources m ]
 
--- why an export isn't added, in the order of the tests
-unfoldable pub export_refusal : ExportArgs → Machine → Option Refusal
-export_refusal a m = first_of (
+-- the tests of an export, in their order
+abbrev pub export_tests : ExportArgs → Machine → List (Option Refusal)
+export_tests a m =
     then_some (not (is_drive a.node) && is_none (live_view a.node m)) (NodeUnknown a.node)
     ∷ then_some (not (is_drive a.node) && a.writable) (ReadOnlyNode a.node)
     ∷ then_some (list_any (λ (e : ExportArgs). bytes_eq a.id e.id) m.exports) (ExportTaken a.id)
     ∷ then_some (list_any (λ (e : ExportArgs). bytes_eq a.name e.name) m.exports) (ExportTaken a.name)
     ∷ then_some (nat_le most_exports (length m.exports)) (TooManyExports most_exports)
     ∷ absent_bitmap a.bitmaps m
-    ∷ [])
+    ∷ []
+
+-- why an export isn't added
+unfoldable pub export_refusal : ExportArgs → Machine → Option Refusal
+export_refusal a m = first_of (export_tests a m)
 
 abbrev pub with_export : ExportArgs → Machine → Machine
 with_export a m = record m { exports = m.exports ++ a ∷ [] }

@@ -11,7 +11,7 @@ use Rattle.span_algebra.specs.Timelines.{stands}
 use Rattle.span_algebra.specs.Spans.{that_pass, AllTouched}
 use Rattle.bitmap_model.specs.Granules.{is_in}
 use Rattle.plain_model.specs.History.{History, disk_at, timeline_of}
-use Rattle.plain_model.specs.Requests.{first_of}
+use Rattle.monitor_model.specs.Commands.{first_of}
 
 pub data BackupState : Type 0 where
   Blank : BackupState

@@ -16,6 +16,7 @@ use Rattle.core_events.specs.declared.commands.ExportArgs.{ExportArgs}
 use Rattle.core_events.specs.declared.answers.Errno.{Errno}
 use Rattle.core_events.specs.declared.answers.Errno.TheVariants.{Perm, Io, Invalid, Shutdown}
 use Rattle.core_events.specs.Answers.{Reply, Done, Content, Flags}
+use Rattle.monitor_model.specs.Commands.{first_of}
 use Rattle.script_model.specs.Recording.{is_drive}
 use Rattle.plain_model.specs.History.{now, disk_at}
 use Rattle.plain_model.specs.Space.{Kind, Data, Hole, Zeroed, need}
@@ -172,12 +173,6 @@ is_invalid r (Write fua) m = leaves_disk r m || is_too_long r
 is_invalid r (Zero fua no_hole) m = leaves_disk r m
 is_invalid r Flush m = false
 is_invalid r (Status context one) m = leaves_disk r m || ((r.length == 0) || not (is_context (context_of context m)))
-
--- what the first test that finds something finds
-abbrev pub first_of : {A : Type 0} → List (Option A) → Option A
-first_of [] = None
-first_of (Some a ∷ tests) = Some a
-first_of (None ∷ tests) = first_of tests
 
 -- why a request is denied before anything is looked up for it, in the order of the tests
 unfoldable pub denial : Request → Machine → Option Errno

@@ -28,16 +28,19 @@ pub fn quiet_answers_are_owed()
 {}
 
 /// A request that is denied, for want of room too, changes nothing.
+#[tactic(auto, using(crate::proofs::AnswerLaws::denial_unmoved))]
 pub fn denials_change_nothing()
     ensures { DenialsChangeNothing }
 {}
 
 /// A command that is refused changes nothing.
+#[tactic(auto, using(crate::proofs::AnswerLaws::refusal_unmoved))]
 pub fn refusals_change_nothing()
     ensures { RefusalsChangeNothing }
 {}
 
 /// A transaction without actions draws a point.
+#[tactic(auto, using(crate::proofs::AnswerLaws::empty_draws))]
 pub fn empty_transaction_draws_a_point()
     ensures { EmptyTransactionDrawsAPoint }
 {}
@@ -48,6 +51,7 @@ pub fn out_of_memory_numbers_an_action()
 {}
 
 /// A source breaks in a request, which is answered with EIO.
+#[tactic(auto, using(crate::proofs::AnswerLaws::break_answers))]
 pub fn break_answers_io()
     ensures { BreakAnswersIo }
 {}
@@ -58,11 +62,13 @@ pub fn record_stays_true()
 {}
 
 /// A chain of true records gives the disk at its last point.
+#[tactic(auto, using(crate::proofs::ChainLaws::chain_gives))]
 pub fn chain_gives_disk()
     ensures { ChainGivesDisk }
 {}
 
 /// Files are taken exactly where they are a chain.
+#[tactic(auto, using(crate::proofs::TakenLaws::taken_are_chains))]
 pub fn taken_exactly_as_chains()
     ensures { TakenExactlyAsChains }
 {}
@@ -73,6 +79,7 @@ pub fn completed_record_is_true()
 {}
 
 /// A copy and the disk together give the disk at the point of the copy.
+#[tactic(auto, using(crate::proofs::CopyLaws::read_as_point))]
 pub fn copies_read_as_point()
     ensures { CopiesReadAsPoint }
 {}
@@ -83,6 +90,7 @@ pub fn settling_leads_to_disk()
 {}
 
 /// A history whose disk is there has nothing to settle.
+#[tactic(auto, using(crate::proofs::SettleLaws::nothing_settles))]
 pub fn nothing_to_settle()
     ensures { NothingToSettle }
 {}

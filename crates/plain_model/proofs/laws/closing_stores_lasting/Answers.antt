@@ -2,4 +2,4 @@ use Rattle.plain_model.proofs.ClosingLaws.{closing_stores}
 use Rattle.plain_model.proofs.laws.closing_stores_lasting.Goals as goal
 
 pub returns : goal.returns
-returns c m s = closing_stores m s
+returns c = closing_stores

@@ -2,4 +2,4 @@ use Rattle.plain_model.proofs.SettleLaws.{last_kept}
 use Rattle.plain_model.proofs.laws.last_disk_is_kept.Goals as goal
 
 pub returns : goal.returns
-returns c n last disk whole crash = last_kept n last disk whole crash
+returns c = last_kept

@@ -2,4 +2,4 @@ use Rattle.plain_model.proofs.Opening.{opening_sound}
 use Rattle.plain_model.proofs.laws.opening_is_sound.Goals as goal
 
 pub returns : goal.returns
-returns c h o is lawful = opening_sound h o is lawful
+returns c = opening_sound

@@ -2,4 +2,4 @@ use Rattle.plain_model.proofs.AnswerLaws.{wanting_numbers}
 use Rattle.plain_model.proofs.laws.out_of_memory_numbers_an_action.Goals as goal
 
 pub returns : goal.returns
-returns c held t actions m number refused = wanting_numbers held t actions m number refused
+returns c = wanting_numbers

@@ -2,4 +2,4 @@ use Rattle.plain_model.proofs.Steps.{step_is_sound}
 use Rattle.plain_model.proofs.laws.soundness_is_kept.Goals as goal
 
 pub returns : goal.returns
-returns c source held rise old event answer new s whole fit step = step_is_sound source held rise old event answer new s whole fit step
+returns c = step_is_sound

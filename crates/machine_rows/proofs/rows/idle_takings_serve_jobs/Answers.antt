@@ -1,7 +1,0 @@
-use Rattle.std.proofs.Common.{refl}
-use Rattle.machine_rows.proofs.Computing.{machine_computes}
-use Rattle.machine_rows.proofs.rows.idle_takings_serve_jobs.Goals as goal
-
-pub returns : goal.returns
-unfolding machine_computes
-returns c = record { a_backup = refl }
