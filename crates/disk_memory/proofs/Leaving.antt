@@ -10,8 +10,7 @@ use Rattle.disk_memory.specs.Steps.{noted, no_files, with_file, with_some}
 use Rattle.disk_memory.specs.Laws.{number_found}
 use Rattle.disk_memory.specs.Outcomes.{IsPick, IsPicked, left_of, IsLeft}
 use Rattle.disk_memory.proofs.Names.{number_push_apart, number_push_new}
-use Rattle.disk_memory.proofs.Kept.{replay-append, put_self, put_other}
-use Rattle.disk_memory.proofs.Calls.{upto_now}
+use Rattle.disk_memory.proofs.Changes.{replay-append, here, elsewhere, replay_some, upto_now}
 
 -- the bytes of the file of a name
 abbrev pub content_of : Held → List ℕ → Option (List ℕ)
@@ -55,10 +54,10 @@ settled_more false names contents changes name bytes keep long was f inside = ab
 settled_more true names contents changes name bytes keep long was f inside = upto_now changes (FilePut (length names) bytes ∷ []) f ∙ elim (cases_lt f (length names)) [
   | inl below ↦
       let apart : f ≢ length names = omega arith in
-      put_other (length names) bytes f apart (upto changes (length changes) f) ∙ was f below ∙ ap (λ (l : List ℕ). l ∷ []) (sym (get_or_append_left contents (bytes ∷ []) [] f (omega (arith, below, long))))
+      elsewhere (length names) f (bytes ∷ []) (upto changes (length changes) f) apart ∙ was f below ∙ ap (λ (l : List ℕ). l ∷ []) (sym (get_or_append_left contents (bytes ∷ []) [] f (omega (arith, below, long))))
   | inr past ↦
       let last : f ≡ length names = omega (arith, inside, past, length_push names name) in
-      ap (λ (n : ℕ). step (FilePut n bytes) f (upto changes (length changes) f)) (sym last) ∙ put_self f bytes (upto changes (length changes) f)
+      ap (λ (n : ℕ). step (FilePut n bytes) f (upto changes (length changes) f)) (sym last) ∙ here f (bytes ∷ []) (upto changes (length changes) f)
       ∙ ap (λ (l : List ℕ). l ∷ []) (sym (get_or_push contents bytes [] f (long ∙ sym last)))
 ]
 
@@ -96,17 +95,6 @@ module _ (choice k : ℕ) (old new : Held) (i : ℕ) (kept : IsKept old) (kept_n
 
 -- ---- files that were not there
 
-step_some : (c : Change) (f : ℕ) (vs : List (List ℕ)) → 0 < length vs → 0 < length (step c f vs)
-step_some c f [] some = absurd (omega arith)
-step_some (FilePut file bytes) f (v ∷ vs) some = elim (file == f) as (λ b. 0 < length (if b then bytes ∷ [] else v ∷ vs)) [ true ↦ lit< tt | false ↦ some ]
-step_some (BytesWritten file at bytes) f (v ∷ vs) some = elim (file == f) as (λ b. 0 < length (if b then after_write at bytes (v ∷ vs) else v ∷ vs)) [ true ↦ omega arith | false ↦ some ]
-step_some UnderWay f (v ∷ vs) some = some
-step_some (FileSynced file) f (v ∷ vs) some = elim (file == f) as (λ b. 0 < length (if b then after_sync (v ∷ vs) else v ∷ vs)) [ true ↦ lit< tt | false ↦ some ]
-
-replay_some : (cs : List Change) (f : ℕ) (vs : List (List ℕ)) → 0 < length vs → 0 < length (replay cs f vs)
-replay_some [] f vs some = some
-replay_some (c ∷ cs) f vs some = replay_some cs f (step c f vs) (step_some c f vs some)
-
 no_versions : (vs : List (List ℕ)) → (0 < length vs → ⊥) → vs ≡ []
 no_versions [] none = refl
 no_versions (v ∷ vs) none = absurd (none (omega arith))
@@ -138,7 +126,7 @@ module _ (choice k : ℕ) (old new : Held) (kept : IsKept old) (told : old.keep 
     | inl below ↦
         let none : content_of new (get_or old.names f []) ≡ None = ap (λ (b : Bool). if b then content_of new (get_or old.names f []) else None) (sym (below_true f (length old.names) below)) ∙ is in
         subst (IsPicked choice (upto old.changes k f)) none (was.picked f below)
-    | inr past ↦ absent_before old.changes k f ((kept.replayed told).absent f (omega (arith, kept.contents, past)))
+    | inr past ↦ absent_before old.changes k f ((kept.replayed told f).absent (omega (arith, kept.contents, past)))
   ]
 
   pub is_left : IsLeft choice k (world_of old) (world_of new)

@@ -1,6 +1,7 @@
 mod Bytes
 mod Mixtures
 mod Names
+mod Changes
 mod Kept
 mod Calls
 mod Fields

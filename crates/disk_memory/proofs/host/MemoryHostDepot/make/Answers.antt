@@ -3,12 +3,15 @@ use Rattle.disk_memory.specs.Held.{Held}
 use Rattle.disk_memory.specs.Steps.{with_file}
 use Rattle.disk_memory.specs.Room.{HasRoom}
 use Rattle.disk_memory.specs.Host.{held, room}
-use Rattle.disk_memory.proofs.Answered.{made_by, unmade_by}
+use Rattle.disk_memory.proofs.Answered.{made_by, quiet_by, unmade_by}
 use Rattle.disk_memory.proofs.host.MemoryHostDepot.make.Goals as goal
 
 pub returns-in-Ok-clause-made : goal.returns-in-Ok-clause-made
 returns-in-Ok-clause-made c =
     made_by (held c.args.self.now) (held c.begins_failing.new.self) (held c.add.new.self) c.args.name.now c.in-Ok.number c.args.self.now.kept c.begins_failing.ensures.held c.in-None.ensures c.in-Ok.ensures.ok.0 c.in-Ok.ensures.ok.1
+
+pub returns-in-Ok-clause-quiet : goal.returns-in-Ok-clause-quiet
+returns-in-Ok-clause-quiet c = quiet_by (held c.args.self.now) (held c.begins_failing.new.self) (held c.add.new.self) c.args.name.now c.args.self.now.kept c.begins_failing.ensures.held c.in-None.ensures c.in-Ok.ensures.ok.1
 
 pub returns-in-Err-clause-made : goal.returns-in-Err-clause-made
 returns-in-Err-clause-made c =
