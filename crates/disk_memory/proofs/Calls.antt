@@ -148,7 +148,7 @@ module _ (f : ℕ) (h : Held) (kept : IsKept h) where
 
 -- past the last number there is no file
 absent_upto : (keep : Bool) (contents : List (List ℕ)) (changes : List Change) (f : ℕ) → (keep ≡ true → IsReplayed contents changes) → (keep ≡ false → changes ≡ []) → length contents ≤ f → upto changes (length changes) f ≡ []
-absent_upto true contents changes f replayed none past = all_of changes f ∙ (replayed refl f).absent past
+absent_upto true contents changes f replayed none past = all_of changes f ∙ ((replayed refl).files f).absent past
 absent_upto false contents changes f replayed none past = none_upto changes (length changes) f (none refl)
 
 module _ (name : List ℕ) (h : Held) (kept : IsKept h) where

@@ -1,13 +1,14 @@
 -- What is true of each host stays true at each call.
 use Rattle.std.proofs.Common.{◌≡◌, lit<, inl, inr, ℕ, ◌+◌, ◌<◌, ◌≤◌, ◌^◌, true, false, Bool, List, [], ◌∷◌, ◌++◌, length, get_or, set, take, map, None, refl, sym, ◌∙◌, ap, subst, arith, length-set, get_or-set_same, get_or-set_other}
-use Rattle.std.proofs.lemmas.Bool.{cases_eq}
+use Rattle.std.proofs.lemmas.Bool.{cases_lt, cases_eq}
 use Rattle.std.proofs.lemmas.List.{take_more, map-append, append-nil, length_push, get_or_push}
 use Rattle.disk_model.specs.Files.{overlay, after_write, after_sync, latest}
 use Rattle.disk_memory.specs.declared.log.Call.{Call}
-use Rattle.disk_memory.specs.Held.{change_of, Change, FilePut, BytesWritten, UnderWay, FileSynced, step, replay, Held, number_of, IsContent, IsReplayed, IsKept}
+use Rattle.disk_memory.specs.Held.{change_of, Change, FilePut, BytesWritten, UnderWay, FileSynced, step, replay, upto, Held, number_of, IsContent, IsReplayed, IsKept}
 use Rattle.disk_memory.specs.Steps.{noted, with_content, no_files, with_file, with_bytes, with_sync, with_text, failed_find, failed_read, failed_write, failed_print}
+use Rattle.disk_memory.specs.Laws.{all_of, none_upto}
 use Rattle.disk_memory.proofs.Names.{found_push, push_before}
-use Rattle.disk_memory.proofs.Changes.{replay-append, here, elsewhere, Spares, spared_all}
+use Rattle.disk_memory.proofs.Changes.{replay-append, here, elsewhere, Spares, spared_all, upto_before, upto_spared, upto_lasts}
 
 -- ---- files and changes together
 
@@ -19,19 +20,38 @@ latest_sync : (vs : List (List ℕ)) → 0 < length vs → (latest vs ≡ latest
 latest_sync [] some = absurd (omega arith)
 latest_sync (v ∷ vs) some = (refl, omega arith)
 
-module _ (contents new : List (List ℕ)) (changes cs : List Change) (n : ℕ) where
+module _ (contents new : List (List ℕ)) (changes cs : List Change) (n : ℕ) (longer : length contents ≤ length new) (there : n < length new) (first : n ≤ length contents)
+    (others : (f : ℕ) → (f ≡ n → ⊥) → (get_or new f [] ≡ get_or contents f []) × (f < length new → f < length contents))
+    (at : (get_or new n [] ≡ latest (replay cs n (replay changes n []))) × (0 < length (replay cs n (replay changes n []))))
+    (spares : (f : ℕ) → (f ≡ n → ⊥) → Spares cs f) (old : IsReplayed contents changes) where
+  -- what is not there after the changes was not there before, nor is what has a greater number
+  later_absent : (k f g : ℕ) → length changes ≤ k → f ≤ g → upto (changes ++ cs) k f ≡ [] → upto (changes ++ cs) k g ≡ []
+  later_absent k f g low le none =
+      let past : length contents ≤ f = elim (cases_lt f (length contents)) [
+        | inl below ↦ absurd (omega (arith, upto_lasts changes cs k f low (subst (λ (vs : List (List ℕ)). 0 < length vs) (sym (all_of changes f)) ((old.files f).there below)), ap length none))
+        | inr past ↦ past
+      ] in
+      elim (cases_eq g n) [
+        | inl same ↦ let is : f ≡ g = omega arith in ap (upto (changes ++ cs) k) (sym is) ∙ none
+        | inr apart ↦ upto_spared changes cs k g (spares g apart) low ∙ all_of changes g ∙ (old.files g).absent (omega arith)
+      ]
+
   -- changes of file n alone, which is there now
-  replayed_on : length contents ≤ length new → n < length new → ((f : ℕ) → (f ≡ n → ⊥) → (get_or new f [] ≡ get_or contents f []) × (f < length new → f < length contents))
-      → (get_or new n [] ≡ latest (replay cs n (replay changes n []))) × (0 < length (replay cs n (replay changes n [])))
-      → ((f : ℕ) → (f ≡ n → ⊥) → Spares cs f) → IsReplayed contents changes → IsReplayed new (changes ++ cs)
-  replayed_on longer there others at spares old f = subst (IsContent new f) (sym (replay-append changes cs f [])) (elim (cases_eq f n) [
-    | inl same ↦ subst (λ (g : ℕ). IsContent new g (replay cs g (replay changes g []))) (sym same) (record { same = at.0; there = λ below. at.1; absent = λ past. absurd (omega arith) })
-    | inr apart ↦ subst (IsContent new f) (sym (spared_all cs f (replay changes f []) (spares f apart))) (record {
-        same = (others f apart).0 ∙ (old f).same;
-        there = λ below. (old f).there ((others f apart).1 below);
-        absent = λ past. (old f).absent (omega arith);
-      })
-  ])
+  replayed_on : IsReplayed new (changes ++ cs)
+  replayed_on = record {
+    files = λ f. subst (IsContent new f) (sym (replay-append changes cs f [])) (elim (cases_eq f n) [
+      | inl same ↦ subst (λ (g : ℕ). IsContent new g (replay cs g (replay changes g []))) (sym same) (record { same = at.0; there = λ below. at.1; absent = λ past. absurd (omega arith) })
+      | inr apart ↦ subst (IsContent new f) (sym (spared_all cs f (replay changes f []) (spares f apart))) (record {
+          same = (others f apart).0 ∙ (old.files f).same;
+          there = λ below. (old.files f).there ((others f apart).1 below);
+          absent = λ past. (old.files f).absent (omega arith);
+        })
+    ]);
+    ordered = λ k f g le none. elim (cases_lt (length changes) k) [
+      | inl after ↦ later_absent k f g (omega arith) le none
+      | inr before ↦ upto_before changes cs k g before ∙ old.ordered k f g le (sym (upto_before changes cs k f before) ∙ none)
+    ];
+  }
 
 module _ (contents : List (List ℕ)) (changes : List Change) (old : IsReplayed contents changes) (n : ℕ) where
   set_others : (bytes : List ℕ) (f : ℕ) → (f ≡ n → ⊥) → (get_or (set contents n bytes) f [] ≡ get_or contents f []) × (f < length (set contents n bytes) → f < length contents)
@@ -42,25 +62,25 @@ module _ (contents : List (List ℕ)) (changes : List Change) (old : IsReplayed 
       let vs = replay changes n [] in
       let new = overlay (get_or contents n []) at bytes in
       let is = here n (after_write at bytes vs) vs in
-      let now = latest_write at bytes vs ((old n).there there) in
-      replayed_on contents (set contents n new) changes (BytesWritten n at bytes ∷ UnderWay ∷ []) n (omega (arith, length-set contents n new)) (omega (arith, there, length-set contents n new)) (set_others new)
-      (get_or-set_same contents n new [] there ∙ ap (λ (file : List ℕ). overlay file at bytes) (old n).same ∙ now.0 ∙ ap latest (sym is), subst (λ (l : List (List ℕ)). 0 < length l) (sym is) now.1)
+      let now = latest_write at bytes vs ((old.files n).there there) in
+      replayed_on contents (set contents n new) changes (BytesWritten n at bytes ∷ UnderWay ∷ []) n (omega (arith, length-set contents n new)) (omega (arith, there, length-set contents n new)) (omega arith) (set_others new)
+      (get_or-set_same contents n new [] there ∙ ap (λ (file : List ℕ). overlay file at bytes) (old.files n).same ∙ now.0 ∙ ap latest (sym is), subst (λ (l : List (List ℕ)). 0 < length l) (sym is) now.1)
       (λ f apart. (λ l. elsewhere n f (after_write at bytes l) l apart, (λ l. refl, tt))) old
 
   replayed_sync : n < length contents → IsReplayed contents (changes ++ FileSynced n ∷ [])
   replayed_sync there =
       let vs = replay changes n [] in
       let is = here n (after_sync vs) vs in
-      let now = latest_sync vs ((old n).there there) in
-      replayed_on contents contents changes (FileSynced n ∷ []) n (omega arith) there (λ f apart. (refl, λ below. below))
-      ((old n).same ∙ now.0 ∙ ap latest (sym is), subst (λ (l : List (List ℕ)). 0 < length l) (sym is) now.1)
+      let now = latest_sync vs ((old.files n).there there) in
+      replayed_on contents contents changes (FileSynced n ∷ []) n (omega arith) there (omega arith) (λ f apart. (refl, λ below. below))
+      ((old.files n).same ∙ now.0 ∙ ap latest (sym is), subst (λ (l : List (List ℕ)). 0 < length l) (sym is) now.1)
       (λ f apart. (λ l. elsewhere n f (after_sync l) l apart, tt)) old
 
-  replayed_put : (new : List (List ℕ)) (bytes : List ℕ) → length contents ≤ length new → n < length new → get_or new n [] ≡ bytes → ((f : ℕ) → (f ≡ n → ⊥) → (get_or new f [] ≡ get_or contents f []) × (f < length new → f < length contents))
+  replayed_put : (new : List (List ℕ)) (bytes : List ℕ) → length contents ≤ length new → n < length new → n ≤ length contents → get_or new n [] ≡ bytes → ((f : ℕ) → (f ≡ n → ⊥) → (get_or new f [] ≡ get_or contents f []) × (f < length new → f < length contents))
       → IsReplayed new (changes ++ FilePut n bytes ∷ [])
-  replayed_put new bytes longer there at others =
+  replayed_put new bytes longer there first at others =
       let is = here n (bytes ∷ []) (replay changes n []) in
-      replayed_on contents new changes (FilePut n bytes ∷ []) n longer there others (at ∙ ap latest (sym is), subst (λ (l : List (List ℕ)). 0 < length l) (sym is) (lit< tt))
+      replayed_on contents new changes (FilePut n bytes ∷ []) n longer there first others (at ∙ ap latest (sym is), subst (λ (l : List (List ℕ)). 0 < length l) (sym is) (lit< tt))
       (λ f apart. (λ l. elsewhere n f (bytes ∷ []) l apart, tt)) old
 
 -- ---- each step
@@ -118,7 +138,7 @@ kept_with_file name bytes h few new k = record {
   reads = omega (arith, k.reads, length_push h.names name, length_push h.reads 0);
   writes = omega (arith, k.writes, length_push h.names name, length_push h.writes 0);
   found = found_push h.names name new k.found;
-  replayed = noted_kept h.keep h.contents (h.contents ++ bytes ∷ []) h.changes (FilePut (length h.names) bytes ∷ []) k.replayed (λ old. replayed_put h.contents h.changes old (length h.names) (h.contents ++ bytes ∷ []) bytes (omega (arith, length_push h.contents bytes)) (omega (arith, k.contents, length_push h.contents bytes)) (get_or_push h.contents bytes [] (length h.names) k.contents) (λ g apart. push_before h.contents bytes [] (length h.names) g k.contents apart));
+  replayed = noted_kept h.keep h.contents (h.contents ++ bytes ∷ []) h.changes (FilePut (length h.names) bytes ∷ []) k.replayed (λ old. replayed_put h.contents h.changes old (length h.names) (h.contents ++ bytes ∷ []) bytes (omega (arith, length_push h.contents bytes)) (omega (arith, k.contents, length_push h.contents bytes)) (omega (arith, k.contents)) (get_or_push h.contents bytes [] (length h.names) k.contents) (λ g apart. push_before h.contents bytes [] (length h.names) g k.contents apart));
   none = noted_none h.keep h.changes (FilePut (length h.names) bytes ∷ []) k.none;
 }
 
@@ -129,7 +149,7 @@ kept_with_content f bytes h there k = record {
   reads = k.reads;
   writes = k.writes;
   found = k.found;
-  replayed = noted_kept h.keep h.contents (set h.contents f bytes) h.changes (FilePut f bytes ∷ []) k.replayed (λ old. replayed_put h.contents h.changes old f (set h.contents f bytes) bytes (omega (arith, length-set h.contents f bytes)) (omega (arith, there, k.contents, length-set h.contents f bytes)) (get_or-set_same h.contents f bytes [] (omega (arith, there, k.contents))) (set_others h.contents h.changes old f bytes));
+  replayed = noted_kept h.keep h.contents (set h.contents f bytes) h.changes (FilePut f bytes ∷ []) k.replayed (λ old. replayed_put h.contents h.changes old f (set h.contents f bytes) bytes (omega (arith, length-set h.contents f bytes)) (omega (arith, there, k.contents, length-set h.contents f bytes)) (omega (arith, there, k.contents)) (get_or-set_same h.contents f bytes [] (omega (arith, there, k.contents))) (set_others h.contents h.changes old f bytes));
   none = noted_none h.keep h.changes (FilePut f bytes ∷ []) k.none;
 }
 
@@ -140,7 +160,7 @@ kept_no_files keep = record {
   reads = refl;
   writes = refl;
   found = λ f below. absurd (omega arith);
-  replayed = λ told f. record { same = refl; there = λ inside. absurd (omega arith); absent = λ past. refl };
+  replayed = λ told. record { files = λ f. record { same = refl; there = λ inside. absurd (omega arith); absent = λ past. refl }; ordered = λ k f g le none. none_upto [] k g refl };
   none = λ untold. refl;
 }
 

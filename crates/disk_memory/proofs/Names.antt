@@ -1,6 +1,6 @@
 -- Names, and one name more.
 use Rattle.std.proofs.Common.{◌≡◌, ◌≢◌, inl, inr, ℕ, ◌<◌, Bool, true, false, List, [], ◌∷◌, ◌++◌, length, get_or, Some, None, refl, sym, ◌∙◌, ap, arith}
-use Rattle.std.specs.Prelude.{not}
+use Rattle.std.specs.Prelude.{Option, not}
 use Rattle.std.specs.List.{position, position_or_len}
 use Rattle.std.specs.Str.{bytes_eq}
 use Rattle.std.proofs.lemmas.Bool.{cases_lt}
@@ -57,6 +57,13 @@ number_push_apart names name other apart = place_apart (λ n. bytes_eq n other) 
 
 pub number_push_new : (names : List (List ℕ)) (name : List ℕ) → number_of names name ≡ None → number_of (names ++ name ∷ []) name ≡ Some (length names)
 number_push_new names name none = place_new (λ n. bytes_eq n name) names name none (same_name name)
+
+pub number_or_none : (names : List (List ℕ)) (name : List ℕ) → ((g : ℕ) → number_of names name ≡ Some g → ⊥) → number_of names name ≡ None
+number_or_none names name never = by_cases (number_of names name) refl
+  where
+    by_cases : (at : Option ℕ) → number_of names name ≡ at → number_of names name ≡ None
+    by_cases None is = is
+    by_cases (Some g) is = absurd (never g is)
 
 -- but for the last, a list with one more is as it was
 pub push_before : {A : Type 0} (xs : List A) (x d : A) (n f : ℕ) → length xs ≡ n → (f ≡ n → ⊥) → (get_or (xs ++ x ∷ []) f d ≡ get_or xs f d) × (f < length (xs ++ x ∷ []) → f < length xs)

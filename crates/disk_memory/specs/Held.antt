@@ -77,9 +77,10 @@ pub record IsContent (contents : List (List ℕ)) (f : ℕ) (versions : List (Li
   pub there : f < length contents → 0 < length versions
   pub absent : length contents ≤ f → versions ≡ []
 
--- the files are those that the changes made, where these are kept
-abbrev pub IsReplayed : List (List ℕ) → List Change → Type 0
-IsReplayed contents changes = (f : ℕ) → IsContent contents f (replay changes f [])
+-- the files are those that the changes made, and were made in the order of their numbers
+pub record IsReplayed (contents : List (List ℕ)) (changes : List Change) : Type 0 where
+  pub files : (f : ℕ) → IsContent contents f (replay changes f [])
+  pub ordered : (k f g : ℕ) → f ≤ g → upto changes k f ≡ [] → upto changes k g ≡ []
 
 -- what is true of each host
 pub record IsKept (h : Held) : Type 0 where
