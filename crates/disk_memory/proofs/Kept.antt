@@ -42,10 +42,10 @@ module _ (contents new : List (List ℕ)) (changes cs : List Change) (n : ℕ) (
     files = λ f. subst (IsContent new f) (sym (replay-append changes cs f [])) (elim (cases_eq f n) [
       | inl same ↦ subst (λ (g : ℕ). IsContent new g (replay cs g (replay changes g []))) (sym same) (record { same = at.0; there = λ below. at.1; absent = λ past. absurd (omega arith) })
       | inr apart ↦ subst (IsContent new f) (sym (spared_all cs f (replay changes f []) (spares f apart))) (record {
-          same = (others f apart).0 ∙ (old.files f).same;
-          there = λ below. (old.files f).there ((others f apart).1 below);
-          absent = λ past. (old.files f).absent (omega arith);
-        })
+        same = (others f apart).0 ∙ (old.files f).same;
+        there = λ below. (old.files f).there ((others f apart).1 below);
+        absent = λ past. (old.files f).absent (omega arith);
+      })
     ]);
     ordered = λ k f g le none. elim (cases_lt (length changes) k) [
       | inl after ↦ later_absent k f g (omega arith) le none
