@@ -68,22 +68,10 @@ run_failed_find h =
     run_without nothing h (failed_find h) refl refl refl refl (record { shared = omega arith; reads = λ f. omega arith; writes = λ f. omega arith; prints = omega arith }) (λ g none. refl) (λ g none. refl)
     (λ none. record { printed = refl; unprinted = refl })
 
-pub run_failed_read : (f : ℕ) (h : Held) → Runs (reads_of f) (world_of h) (world_of (failed_read f h))
-run_failed_read f h =
-    run_without (reads_of f) h (failed_read f h) refl refl refl refl (record { shared = omega arith; reads = λ g. counted_more h.reads f g; writes = λ f. omega arith; prints = omega arith }) (λ g none. refl)
-    (λ g none. get_or-set_other h.reads f g (raised (get_or h.reads f 0)) 0 none) (λ none. record { printed = refl; unprinted = refl })
-
 run_failed_write : (f : ℕ) (h : Held) → Runs (writes_of f) (world_of h) (world_of (failed_write f h))
 run_failed_write f h =
     run_without (writes_of f) h (failed_write f h) refl refl refl refl (record { shared = omega arith; reads = λ f. omega arith; writes = λ g. counted_more h.writes f g; prints = omega arith })
     (λ g none. get_or-set_other h.writes f g (raised (get_or h.writes f 0)) 0 none) (λ g none. refl) (λ none. record { printed = refl; unprinted = refl })
-
-pub run_failed_print : (h : Held) → Runs only_text (world_of h) (world_of (failed_print h))
-run_failed_print h =
-    run_without only_text h (failed_print h) refl refl refl refl (record { shared = omega arith; reads = λ f. omega arith; writes = λ f. omega arith; prints = omega arith }) (λ g none. refl) (λ g none. refl) (λ none. absurd (none tt))
-
-pub run_with_text : (text : List ℕ) (h : Held) → Runs only_text (world_of h) (world_of (with_text text h))
-run_with_text text h = run_without only_text h (with_text text h) refl refl refl refl (stay_counts (world_of h).faults) (λ g none. refl) (λ g none. refl) (λ none. absurd (none tt))
 
 -- a call that noted changes of file f alone
 run_noted : (parts : Parts) (f : ℕ) (h k : Held) (cs : List Change) → k.keep ≡ h.keep → k.changes ≡ h.changes ++ noted h.keep cs → k.names ≡ h.names → k.reads ≡ h.reads → k.writes ≡ h.writes → k.printed ≡ h.printed → (world_of k).faults ≡ (world_of h).faults
@@ -110,9 +98,6 @@ unwritten f at bytes h = record {
   may = same_versions at bytes (upto h.changes (length h.changes) f);
   torn = λ told. untorn at bytes (get_or h.contents f []);
 }
-
-pub unsynced : (f : ℕ) (h : Held) → Syncs f (world_of h) (world_of (failed_write f h))
-unsynced f h = record { run = run_failed_write f h; steps = λ k low high. absurd (omega arith); may = inl refl; seen = refl }
 
 module _ (f : ℕ) (h : Held) (kept : IsKept h) where
   pub has_written : (at : ℕ) (bytes : List ℕ) → f < length h.names → HasWritten f at bytes (world_of h) (world_of (with_bytes f at bytes h))
@@ -208,10 +193,10 @@ module _ (name : List ℕ) (h : Held) (kept : IsKept h) where
   one_or_none false vs is = inl is
 
   -- an empty file was made
-  pub has_made : number_of h.names name ≡ None → HasMade name end (world_of h) (world_of (with_file name [] h))
-  has_made new =
+  pub has_made : (f : ℕ) → f ≡ end → number_of h.names name ≡ None → HasMade name f (world_of h) (world_of (with_file name [] h))
+  has_made f last new =
       let put = has_put_new [] new in
-      record {
+      subst (λ (n : ℕ). HasMade name n (world_of h) (world_of (with_file name [] h))) (sym last) (record {
         call = record {
           run = put.run;
           named = λ given. absurd (omega arith);
@@ -225,7 +210,7 @@ module _ (name : List ℕ) (h : Held) (kept : IsKept h) where
         was_free = λ told. new;
         is_found = λ told. put.found;
         versions = put.versions;
-      }
+      })
 
 -- another content of a file that was there
 pub has_put_old : (name bytes : List ℕ) (f : ℕ) (h : Held) → IsKept h → number_of h.names name ≡ Some f → HasPut name bytes f (world_of h) (world_of (with_content f bytes h))

@@ -94,15 +94,6 @@ noted_none : (keep : Bool) (changes cs : List Change) → (keep ≡ false → ch
 noted_none true changes cs none untold = absurd (cc untold)
 noted_none false changes cs none untold = append-nil changes ∙ none refl
 
-pub kept_failed_find : (h : Held) → IsKept h → IsKept (failed_find h)
-kept_failed_find h k = record { few = k.few; contents = k.contents; reads = k.reads; writes = k.writes; found = k.found; replayed = k.replayed; none = k.none }
-
-pub kept_failed_print : (h : Held) → IsKept h → IsKept (failed_print h)
-kept_failed_print h k = record { few = k.few; contents = k.contents; reads = k.reads; writes = k.writes; found = k.found; replayed = k.replayed; none = k.none }
-
-pub kept_with_text : (text : List ℕ) (h : Held) → IsKept h → IsKept (with_text text h)
-kept_with_text text h k = record { few = k.few; contents = k.contents; reads = k.reads; writes = k.writes; found = k.found; replayed = k.replayed; none = k.none }
-
 pub kept_failed_read : (f : ℕ) (h : Held) → IsKept h → IsKept (failed_read f h)
 kept_failed_read f h k = record { few = k.few; contents = k.contents; reads = length-set h.reads f _ ∙ k.reads; writes = k.writes; found = k.found; replayed = k.replayed; none = k.none }
 
@@ -151,17 +142,6 @@ kept_with_content f bytes h there k = record {
   found = k.found;
   replayed = noted_kept h.keep h.contents (set h.contents f bytes) h.changes (FilePut f bytes ∷ []) k.replayed (λ old. replayed_put h.contents h.changes old f (set h.contents f bytes) bytes (omega (arith, length-set h.contents f bytes)) (omega (arith, there, k.contents, length-set h.contents f bytes)) (omega (arith, there, k.contents)) (get_or-set_same h.contents f bytes [] (omega (arith, there, k.contents))) (set_others h.contents h.changes old f bytes));
   none = noted_none h.keep h.changes (FilePut f bytes ∷ []) k.none;
-}
-
-pub kept_no_files : (keep : Bool) → IsKept (no_files keep)
-kept_no_files keep = record {
-  few = lit< tt;
-  contents = refl;
-  reads = refl;
-  writes = refl;
-  found = λ f below. absurd (omega arith);
-  replayed = λ told. record { files = λ f. record { same = refl; there = λ inside. absurd (omega arith); absent = λ past. refl }; ordered = λ k f g le none. none_upto [] k g refl };
-  none = λ untold. refl;
 }
 
 -- the versions after one call more, of those of the code

@@ -6,5 +6,4 @@ mod Kept
 mod Calls
 mod Fields
 mod Rooms
-mod Answered
 mod Leaving

@@ -44,9 +44,6 @@ from_push least xs x all last = from_append least xs (x ∷ []) all one
 
 -- ---- files
 
-pub same_files : (files : List File) → IsSameFiles files files
-same_files files = record { names = refl; contents = refl; reads = refl; writes = refl }
-
 pub same_files_on : (a b c : List File) → IsSameFiles a b → IsSameFiles b c → IsSameFiles a c
 same_files_on a b c first second = record {
   names = second.names ∙ first.names;
@@ -84,18 +81,6 @@ room_same places files more spare printed same = ap (λ (l : List ℕ). record {
 pub room_wider : (places : ℕ) (files more spare : List File) (printed : ℕ) → IsWider (lengths_of files) (lengths_of more) → IsRoomier (room_of places files spare printed) (room_of places more spare printed)
 room_wider places files more spare printed wider = record { places = omega arith; files = wider; names = wider_same (name_lengths_of spare); spares = wider_same (lengths_of spare); printed = omega arith }
 
-pub roomier_same : (a : Room) → IsRoomier a a
-roomier_same a = record { places = omega arith; files = wider_same a.files; names = wider_same a.names; spares = wider_same a.spares; printed = omega arith }
-
-pub roomier_on : (a b c : Room) → IsRoomier a b → IsRoomier b c → IsRoomier a c
-roomier_on a b c first second = record {
-  places = omega arith;
-  files = wider_on a.files b.files c.files first.files second.files;
-  names = wider_on a.names b.names c.names first.names second.names;
-  spares = wider_on a.spares b.spares c.spares first.spares second.spares;
-  printed = omega arith;
-}
-
 -- room stays where there is as much at least
 pub room_on : (more size : ℕ) (a b : Room) → IsRoomier a b → HasRoom more size a → HasRoom more size b
 room_on more size a b wider has = record {
@@ -127,40 +112,3 @@ room_spares more size a b kept has = record {
   files = subst (AllFrom size) (sym kept.files) has.files;
   text = omega (arith, has.text, kept.printed);
 }
-
--- one of the kept files is taken
-pub room_less : (more size : ℕ) (a : Room) → HasRoom (more + 1) size a → HasRoom more size (less_spare a)
-room_less more size a has = record {
-  places = omega (arith, has.places);
-  numbers = omega (arith, has.numbers);
-  some = omega (arith, has.some, length-take (length a.spares - 1) a.spares);
-  paired = omega (arith, has.paired, length-take (length a.spares - 1) a.spares, length-take (length a.names - 1) a.names);
-  names = λ i low high. let below : i < length a.names - 1 = omega (arith, low, length-take (length a.names - 1) a.names) in
-      omega (arith, has.names i (omega arith) (omega (arith, high, length-take (length a.names - 1) a.names)), get_or-take (length a.names - 1) a.names i 0 below);
-  spares = λ i low high. let below : i < length a.spares - 1 = omega (arith, low, length-take (length a.spares - 1) a.spares) in
-      omega (arith, has.spares i (omega arith) (omega (arith, high, length-take (length a.spares - 1) a.spares)), get_or-take (length a.spares - 1) a.spares i 0 below);
-  files = has.files;
-  text = has.text;
-}
-
--- and made
-pub room_made : (more size : ℕ) (a b : Room) (long : ℕ) → HasRoom (more + 1) size a → size ≤ long → IsRoomier (with_place long (less_spare a)) b → HasRoom more size b
-room_made more size a b long has wide wider =
-    let less = room_less more size a has in
-    room_on more size (with_place long (less_spare a)) b wider (record {
-      places = omega (arith, has.places, length_push a.files long);
-      numbers = omega (arith, has.numbers, length_push a.files long);
-      some = less.some;
-      paired = less.paired;
-      names = less.names;
-      spares = less.spares;
-      files = from_push size a.files long less.files wide;
-      text = less.text;
-    })
-
--- the last of the kept files has room
-pub last_spare : (more size : ℕ) (a : Room) → HasRoom (more + 1) size a → (0 < length a.spares) × (size ≤ get_or a.spares (length a.spares - 1) 0)
-last_spare more size a has = let some : 0 < length a.spares = omega (arith, has.some) in (some, has.spares (length a.spares - 1) (omega arith) (omega arith))
-
-pub last_name : (more size : ℕ) (a : Room) → HasRoom (more + 1) size a → (0 < length a.names) × (4096 ≤ get_or a.names (length a.names - 1) 0)
-last_name more size a has = let some : 0 < length a.names = omega (arith, has.some, has.paired) in (some, has.names (length a.names - 1) (omega arith) (omega arith))
