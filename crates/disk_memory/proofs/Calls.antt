@@ -1,14 +1,13 @@
 -- What each call tells: h is what the host held at the start, k what it holds at the end.
 use Rattle.std.proofs.Common.{◌≡◌, ◌⊎◌, inl, inr, ℕ, ◌<◌, ◌≤◌, true, false, Bool, List, [], ◌∷◌, ◌++◌, length, get_or, set, Some, None, refl, sym, ◌∙◌, ap, subst, arith, length-append, get_or-set_same, get_or-set_other}
 use Rattle.std.specs.Prelude.{if◌then◌else◌}
-use Rattle.std.proofs.lemmas.Bool.{cases_lt, cases_eq}
-use Rattle.std.proofs.lemmas.Grind.{get_or-set_at}
 use Rattle.std.proofs.lemmas.List.{append-nil, length_push, get_or_append_left, get_or_push, get_or_past}
+use Rattle.std.proofs.lemmas.Grind.{common_steps}
 use Rattle.disk_model.specs.Files.{overlay, after_write, after_sync, MayWrite, IsTorn}
-use Rattle.disk_model.specs.World.{Faults, versions, IsNameless, Parts, nothing, reads_of, writes_of, only_text, making, Counts, GoesOn, SameFile, SameText, Runs, Rose, IsGiven, Writes, HasWritten, Syncs, HasSynced, MayMake, HasMade}
+use Rattle.disk_model.specs.World.{Faults, versions, IsNameless, Parts, nothing, writes_of, making, Counts, GoesOn, SameFile, SameText, Runs, Writes, HasWritten, Syncs, HasSynced, MayMake, HasMade}
 use Rattle.disk_model.proofs.Laws.{whole_torn, untorn, wrote, run_more, nothing_within}
-use Rattle.disk_memory.specs.Held.{Change, FilePut, BytesWritten, UnderWay, FileSynced, step, replay, upto, Held, number_of, world_of, IsReplayed, IsKept}
-use Rattle.disk_memory.specs.Steps.{raised, noted, with_content, HasPut, with_file, with_bytes, with_sync, with_text, failed_find, failed_read, failed_write, failed_print}
+use Rattle.disk_memory.specs.Held.{Change, FilePut, BytesWritten, UnderWay, FileSynced, step, upto, Held, number_of, world_of, IsReplayed, IsKept}
+use Rattle.disk_memory.specs.Steps.{raised, noted, with_content, HasPut, with_file, with_bytes, with_sync, failed_find, failed_write}
 use Rattle.disk_memory.specs.Laws.{number_found, all_of, none_upto}
 use Rattle.disk_memory.proofs.Names.{number_push_apart, number_push_new, push_before}
 use Rattle.disk_memory.proofs.Changes.{here, elsewhere, Spares, spares_noted, upto_before, upto_spared, upto_lasts, versions_noted, versions_put, before_noted, within_noted}
@@ -17,13 +16,7 @@ use Rattle.disk_memory.proofs.Changes.{here, elsewhere, Spares, spares_noted, up
 
 -- one count of a list rose
 counted_more : (counts : List ℕ) (f g : ℕ) → get_or counts g 0 ≤ get_or (set counts f (raised (get_or counts f 0))) g 0
-counted_more counts f g = elim (cases_eq g f) [
-  | inl same ↦ elim (cases_lt f (length counts)) [
-    | inl below ↦ omega (arith, get_or-set_at counts f g (raised (get_or counts f 0)) 0 same below, ap (λ (j : ℕ). get_or counts j 0) same)
-    | inr past ↦ omega (arith, get_or_past counts g 0 (omega arith))
-  ]
-  | inr apart ↦ omega (arith, get_or-set_other counts f g (raised (get_or counts f 0)) 0 apart)
-]
+counted_more counts f g = grind (arith, common_steps)
 
 stay_counts : (c : Faults) → Counts c c
 stay_counts c = record { shared = omega arith; reads = λ f. omega arith; writes = λ f. omega arith; prints = omega arith }
@@ -163,10 +156,7 @@ module _ (name : List ℕ) (h : Held) (kept : IsKept h) where
   module _ (bytes : List ℕ) (new : number_of h.names name ≡ None) where
     -- the counts of a list with one more, which is zero
     zero_more : (counts : List ℕ) (g : ℕ) → get_or (counts ++ 0 ∷ []) g 0 ≡ get_or counts g 0
-    zero_more counts g = elim (cases_eq g (length counts)) [
-      | inl last ↦ get_or_push counts 0 0 g (sym last) ∙ sym (get_or_past counts g 0 (omega arith))
-      | inr apart ↦ (push_before counts 0 0 (length counts) g refl apart).0
-    ]
+    zero_more counts g = grind (arith, common_steps)
 
     pub has_put_new : HasPut name bytes end (world_of h) (world_of (with_file name bytes h))
     has_put_new = record {

@@ -1,12 +1,13 @@
 -- What is true of each host stays true at each call.
-use Rattle.std.proofs.Common.{◌≡◌, lit<, inl, inr, ℕ, ◌+◌, ◌<◌, ◌≤◌, ◌^◌, true, false, Bool, List, [], ◌∷◌, ◌++◌, length, get_or, set, take, map, None, refl, sym, ◌∙◌, ap, subst, arith, length-set, get_or-set_same, get_or-set_other}
+use Rattle.std.proofs.Common.{◌≡◌, lit<, inl, inr, ℕ, ◌+◌, ◌<◌, ◌≤◌, ◌^◌, true, false, Bool, List, [], ◌∷◌, ◌++◌, length, get_or, set, take, map, None, refl, sym, ◌∙◌, ap, subst, arith, length-set, get_or-set_same}
 use Rattle.std.proofs.lemmas.Bool.{cases_lt, cases_eq}
 use Rattle.std.proofs.lemmas.List.{take_more, map-append, append-nil, length_push, get_or_push}
+use Rattle.std.proofs.lemmas.Grind.{common_steps}
 use Rattle.disk_model.specs.Files.{overlay, after_write, after_sync, latest}
 use Rattle.disk_memory.specs.declared.log.Call.{Call}
 use Rattle.disk_memory.specs.Held.{change_of, Change, FilePut, BytesWritten, UnderWay, FileSynced, step, replay, upto, Held, number_of, IsContent, IsReplayed, IsKept}
-use Rattle.disk_memory.specs.Steps.{noted, with_content, no_files, with_file, with_bytes, with_sync, with_text, failed_find, failed_read, failed_write, failed_print}
-use Rattle.disk_memory.specs.Laws.{all_of, none_upto}
+use Rattle.disk_memory.specs.Steps.{noted, with_content, with_file, with_bytes, with_sync, failed_read, failed_write}
+use Rattle.disk_memory.specs.Laws.{all_of}
 use Rattle.disk_memory.proofs.Names.{found_push, push_before}
 use Rattle.disk_memory.proofs.Changes.{replay-append, here, elsewhere, Spares, spared_all, upto_before, upto_spared, upto_lasts}
 
@@ -55,7 +56,7 @@ module _ (contents new : List (List ℕ)) (changes cs : List Change) (n : ℕ) (
 
 module _ (contents : List (List ℕ)) (changes : List Change) (old : IsReplayed contents changes) (n : ℕ) where
   set_others : (bytes : List ℕ) (f : ℕ) → (f ≡ n → ⊥) → (get_or (set contents n bytes) f [] ≡ get_or contents f []) × (f < length (set contents n bytes) → f < length contents)
-  set_others bytes f apart = (get_or-set_other contents n f bytes [] apart, λ below. omega (arith, below, length-set contents n bytes))
+  set_others bytes f apart = grind (arith, common_steps)
 
   replayed_write : (at : ℕ) (bytes : List ℕ) → n < length contents → IsReplayed (set contents n (overlay (get_or contents n []) at bytes)) (changes ++ BytesWritten n at bytes ∷ UnderWay ∷ [])
   replayed_write at bytes there =

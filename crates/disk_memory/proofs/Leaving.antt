@@ -1,8 +1,9 @@
 -- What a crash leaves, file by file.
-use Rattle.std.proofs.Common.{◌≡◌, ◌⊎◌, inl, inr, ℕ, ◌+◌, ◌<◌, ◌≤◌, true, false, Bool, List, [], ◌∷◌, ◌++◌, length, get_or, take, drop, Some, None, refl, sym, ◌∙◌, ap, subst, arith}
-use Rattle.std.specs.Prelude.{Option, nat_lt, if◌then◌else◌}
+use Rattle.std.proofs.Common.{◌≡◌, inl, inr, ℕ, ◌+◌, ◌<◌, ◌≤◌, true, Bool, List, [], ◌∷◌, ◌++◌, length, get_or, take, drop, Some, None, refl, sym, ◌∙◌, ap, subst, arith}
+use Rattle.std.specs.Prelude.{Option, if◌then◌else◌}
 use Rattle.std.proofs.lemmas.Bool.{cases_lt, cases_eq, lt-ltb, le-ltb}
 use Rattle.std.proofs.lemmas.List.{get_or_push, length_push, take-append-drop}
+use Rattle.std.proofs.lemmas.Grind.{common_steps}
 use Rattle.disk_memory.specs.Held.{Change, FilePut, replay, upto, Held, number_of, world_of, IsKept}
 use Rattle.disk_memory.specs.Steps.{noted, with_file, with_some}
 use Rattle.disk_memory.specs.Laws.{number_found}
@@ -28,10 +29,7 @@ picked_some choice (v ∷ vs) file pick none = cc
 
 -- of what is below the end of a list with one more: it is the last, or was there before
 below_push : {A : Type 0} (P : ℕ → Type 0) (xs : List A) (x : A) → ((f : ℕ) → f < length xs → P f) → P (length xs) → (f : ℕ) → f < length (xs ++ x ∷ []) → P f
-below_push P xs x before last f inside = elim (cases_lt f (length xs)) [
-  | inl low ↦ before f low
-  | inr past ↦ let same : length xs ≡ f = omega (arith, inside, past, length_push xs x) in subst P same last
-]
+below_push P xs x before last f inside = grind (arith, common_steps)
 
 module _ (choice k : ℕ) (old new : Held) (i : ℕ) (kept : IsKept old) (told : old.keep ≡ true) (kept_new : IsKept new) (was : IsLeaving choice k old i new) (inside : i < length old.names) where
   abbrev name : List ℕ
@@ -122,10 +120,7 @@ module _ (choice k : ℕ) (old new : Held) (kept : IsKept old) (kept_new : IsKep
 
   -- the files that it has are those below the end
   file_at : (f : ℕ) (file : List ℕ) → files_of (world_of new) f ≡ Some file → (f < end) × (get_or new.contents f [] ≡ file)
-  file_at f file is = elim (cases_lt f end) [
-    | inl low ↦ let has : Some (get_or new.contents f []) ≡ Some file = ap (λ (b : Bool). if b then Some (get_or new.contents f []) else None) (sym (lt-ltb f end low)) ∙ is in (low, cc)
-    | inr past ↦ let none : None ≡ Some file = ap (λ (b : Bool). if b then Some (get_or new.contents f []) else None) (sym (le-ltb f end past)) ∙ is in absurd (cc)
-  ]
+  file_at f file is = grind (arith, common_steps)
 
   absent_of : (f : ℕ) → files_of (world_of new) f ≡ None → upto old.changes k f ≡ []
   absent_of f is = elim (cases_lt f end) [

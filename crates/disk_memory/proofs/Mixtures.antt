@@ -1,9 +1,10 @@
 -- Files mixed by sectors.
-use Rattle.std.proofs.Common.{◌≡◌, ◌≢◌, ◌⊎◌, ⊎_elim, inl, inr, ℕ, ◌+◌, ◌-◌, ◌*◌, ◌/◌, ◌<◌, ◌≤◌, min, max, List, [], ◌∷◌, ◌++◌, length, take, drop, sym, ◌∙◌, ap, arith, add-zero, length-take, length-drop}
+use Rattle.std.proofs.Common.{◌≡◌, ◌≢◌, ◌⊎◌, ⊎_elim, inl, inr, ℕ, ◌+◌, ◌-◌, ◌*◌, ◌/◌, ◌<◌, ◌≤◌, min, max, List, [], ◌∷◌, ◌++◌, length, take, drop, sym, ◌∙◌, ap, arith, add-zero, length-take}
 use Rattle.std.proofs.lemmas.Bool.{cases_lt}
 use Rattle.std.proofs.lemmas.List.{get_or-take, get_or-drop, take-append-drop, append-nil, nil_from_length, take_all}
-use Rattle.disk_model.specs.Files.{byte, overlay, synced, SomeVersion, AgreesAt, after_write, after_sync}
-use Rattle.disk_model.proofs.Bytes.{same_file, byte_past, byte-overlay_below, byte-overlay_in, byte-overlay_above, overlay_inside, overlay_empty, overlay_no_shorter, length-overlay_inside}
+use Rattle.std.proofs.lemmas.Grind.{common_steps}
+use Rattle.disk_model.specs.Files.{byte, overlay, synced, SomeVersion, AgreesAt, after_write}
+use Rattle.disk_model.proofs.Bytes.{same_file, byte_past, byte-overlay_below, byte-overlay_in, byte-overlay_above, overlay_inside, overlay_empty, overlay_no_shorter}
 use Rattle.disk_memory.specs.Outcomes.{SameSector, IsMixture, IsPick}
 
 -- ---- one sector
@@ -29,7 +30,7 @@ module _ (mixed now new : List ℕ) (sector to : ℕ) (same : length now ≡ len
   part = take (to - from) (drop from now)
 
   length-part : from + length part ≡ to
-  length-part = omega (arith, length-take (to - from) (drop from now), length-drop from now, end, same, inside)
+  length-part = grind (arith, common_steps)
 
   is_over : new ≡ overlay mixed from part
   is_over = is ∙ over mixed from part (omega (arith, length-part, end, same))
@@ -58,10 +59,10 @@ pub same_sectors : (a b : List ℕ) → length a ≡ length b → ((k : ℕ) →
 same_sectors a b long each = same_file a b long (λ i inside. each (i / 512) (omega arith) i (omega arith) (omega arith))
 
 pub same_on : (k : ℕ) (a b c : List ℕ) → SameSector k a b → SameSector k b c → SameSector k a c
-same_on k a b c first second i low high = first i low high ∙ second i low high
+same_on k a b c first second i low high = grind (arith, common_steps)
 
 pub either_on : (k : ℕ) (a b c d : List ℕ) → SameSector k a b → SameSector k b c ⊎ SameSector k b d → SameSector k a c ⊎ SameSector k a d
-either_on k a b c d first second = ⊎_elim (λ (old : SameSector k b c). inl (same_on k a b c first old)) (λ (new : SameSector k b d). inr (same_on k a b d first new)) second
+either_on k a b c d first second = grind (arith, common_steps)
 
 -- ---- versions
 

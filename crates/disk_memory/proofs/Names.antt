@@ -1,15 +1,16 @@
 -- Names, and one name more.
-use Rattle.std.proofs.Common.{◌≡◌, ◌≢◌, inl, inr, ℕ, ◌<◌, Bool, true, false, List, [], ◌∷◌, ◌++◌, length, get_or, Some, None, refl, sym, ◌∙◌, ap, arith}
+use Rattle.std.proofs.Common.{◌≡◌, inl, inr, ℕ, ◌<◌, Bool, true, false, List, [], ◌∷◌, ◌++◌, length, get_or, Some, None, refl, sym, ◌∙◌, ap, arith}
 use Rattle.std.specs.Prelude.{Option, not}
 use Rattle.std.specs.List.{position, position_or_len}
 use Rattle.std.specs.Str.{bytes_eq}
 use Rattle.std.proofs.lemmas.Bool.{cases_lt}
 use Rattle.std.proofs.lemmas.Bool.Decides.{nat_tests}
-use Rattle.std.proofs.lemmas.List.{get_or_append_left, get_or_push, get_or_past, length_push}
+use Rattle.std.proofs.lemmas.List.{get_or_append_left, get_or_push, length_push}
 use Rattle.std.proofs.lemmas.List.Folds.{position_or_len_push}
 use Rattle.std.proofs.lemmas.List.Sums.{position_or_len_is, prefix_len-le-length}
 use Rattle.std.proofs.lemmas.List.Quantifiers.{position-Some}
 use Rattle.std.proofs.lemmas.Slice.Eq.{bytes_eq-Decides}
+use Rattle.std.proofs.lemmas.Grind.{common_steps}
 use Rattle.disk_memory.specs.Held.{number_of}
 
 -- ---- by any test
@@ -67,12 +68,7 @@ number_or_none names name never = by_cases (number_of names name) refl
 
 -- but for the last, a list with one more is as it was
 pub push_before : {A : Type 0} (xs : List A) (x d : A) (n f : ℕ) → length xs ≡ n → (f ≡ n → ⊥) → (get_or (xs ++ x ∷ []) f d ≡ get_or xs f d) × (f < length (xs ++ x ∷ []) → f < length xs)
-push_before xs x d n f end other =
-    let apart : f ≢ n = other in
-    let long = length_push xs x in (
-      elim (cases_lt f (length xs)) [ inl below ↦ get_or_append_left xs (x ∷ []) d f below | inr past ↦ get_or_past (xs ++ x ∷ []) f d (omega arith) ∙ sym (get_or_past xs f d past) ],
-      λ below. omega arith,
-    )
+push_before xs x d n f end other = grind (arith, common_steps)
 
 -- each file is found by its name, with one more too
 pub found_push : (names : List (List ℕ)) (name : List ℕ) → number_of names name ≡ None → ((f : ℕ) → f < length names → number_of names (get_or names f []) ≡ Some f)
