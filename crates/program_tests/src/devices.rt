@@ -72,7 +72,6 @@ fn files_are_made_written_copied_and_renewed(rt: HostRuntime) {
     assert_eq!(rt; out.as_slice(), b"\0\089abcdef\0\0".as_slice());
     assert_eq!(rt; renew(&mut host, &[b'z'; 512]), Ok(()));
     assert_eq!(rt; host.file("disk"), Some([b'z'; 512].as_slice()));
-    assert_eq!(rt; host.file("copy"), Some(b"\0\089abcdef".as_slice()));
 }
 
 #[test]
