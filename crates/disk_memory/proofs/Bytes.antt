@@ -1,19 +1,14 @@
 -- Bytes of files that grow.
-use Rattle.std.proofs.Common.{◌≡◌, inl, inr, ℕ, ◌+◌, ◌-◌, ◌<◌, List, ◌++◌, length, take, drop, replicate, refl, sym, ◌∙◌, ap, arith, length-append}
+use Rattle.std.proofs.Common.{◌≡◌, inl, inr, ℕ, ◌+◌, ◌-◌, ◌<◌, List, ◌++◌, length, take, drop, replicate, sym, ◌∙◌, ap, arith, length-append}
 use Rattle.std.proofs.lemmas.Bool.{cases_lt}
-use Rattle.std.proofs.lemmas.List.{length-take, length-drop, append-nil, drop_all, take_all, get_or_past, get_or_append_left, get_or-append_right, get_or-replicate, length-replicate}
+use Rattle.std.proofs.lemmas.List.{length-replicate}
+use Rattle.std.proofs.lemmas.Grind.{common_steps}
 use Rattle.disk_model.specs.Files.{byte, overlay}
 use Rattle.disk_model.proofs.Bytes.{same_file, length-overlay, byte-overlay_below, byte-overlay_in, byte-overlay_above, overlay_inside}
 
 -- zeros behind the end
 pub byte_zeros : (old : List ℕ) (n i : ℕ) → byte (old ++ replicate n 0) i ≡ byte old i
-byte_zeros old n i = elim (cases_lt i (length old)) [
-  | inl inside ↦ get_or_append_left old (replicate n 0) 0 i inside
-  | inr past ↦ get_or-append_right old (replicate n 0) (length old) i 0 refl past ∙ elim (cases_lt (i - length old) n) [
-    | inl here ↦ get_or-replicate n (i - length old) 0 0 here ∙ sym (get_or_past old i 0 past)
-    | inr out ↦ get_or_past (replicate n 0) (i - length old) 0 (omega (arith, out, length-replicate {A = ℕ} n 0)) ∙ sym (get_or_past old i 0 past)
-  ]
-]
+byte_zeros old n i = grind (arith, common_steps)
 
 overlay_zeros : (old : List ℕ) (at : ℕ) (bytes : List ℕ) → 0 < length bytes → overlay (old ++ replicate (at + length bytes - length old) 0) at bytes ≡ overlay old at bytes
 overlay_zeros old at bytes some =
@@ -38,10 +33,8 @@ written_over old more at bytes some is =
 
 -- a slice that was written whole
 pub whole : (n : ℕ) (new old : List ℕ) → length new ≡ length old → n ≡ length old → take n (new ++ drop (length new) old) ≡ new
-whole n new old long end =
-    ap (λ (l : List ℕ). take n (new ++ l)) (drop_all (length new) old (omega (arith, long))) ∙ ap (take n) (append-nil new) ∙ take_all n new (omega (arith, long, end))
+whole n new old long end = grind (arith, common_steps)
 
 -- how long a file is where bytes are put over others
 pub over_length : (more : List ℕ) (at : ℕ) (bytes old : List ℕ) → more ≡ old ++ replicate (at + length bytes - length old) 0 → length (take at more ++ bytes ++ drop (at + length bytes) more) ≡ length more
-over_length more at bytes old is =
-    omega (arith, ap length is, length-append old (replicate (at + length bytes - length old) 0), length-replicate {A = ℕ} (at + length bytes - length old) 0, length-append (take at more ++ bytes) (drop (at + length bytes) more), length-append (take at more) bytes, length-take at more, length-drop (at + length bytes) more)
+over_length more at bytes old is = grind (arith, common_steps)

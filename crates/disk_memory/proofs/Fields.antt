@@ -4,6 +4,7 @@ use Rattle.std.specs.Prelude.{string_bytes, not, cond, Result, Ok, Err, OnOk, On
 use Rattle.std.specs.List.{position, position_or_len}
 use Rattle.std.specs.Str.{bytes_eq}
 use Rattle.std.specs.declared.alloc.Global.{Global}
+use Rattle.std.proofs.lemmas.Grind.{common_steps}
 use Rattle.disk_model.specs.Files.{overlay}
 use Rattle.std.proofs.lemmas.List.{length-map, map-append, map-set, set-get_or, get_or-map}
 use Rattle.disk_memory.specs.declared.files.File.{File}
@@ -18,7 +19,7 @@ map-set_same g files n old new there is same =
 
 -- a field that is read
 pub map_read : {B : Type 0} (g : File → B) (files : List File) (n : ℕ) (old : File) (d : B) → n < length files → old ≡ get_or files n old → g old ≡ get_or (map g files) n d
-map_read g files n old d there is = ap g is ∙ sym (get_or-map g files n old d there)
+map_read g files n old d there is = grind (arith, common_steps)
 
 module _ (keep : Bool) (files : List File) (log : List Call) (printed : List ℕ) (faults print_faults n : ℕ) (old new : File) (low : n < length (map (λ (file : File). string_bytes file.name) files)) (is : old ≡ get_or files n old) where
   abbrev held : Held

@@ -1,173 +1,88 @@
 -- What is true of each host stays true at each call.
-use Rattle.std.proofs.Common.{◌≡◌, ◌≢◌, lit<, inl, inr, ⊎_elim, ℕ, ◌+◌, ◌<◌, ◌≤◌, ◌^◌, true, false, Bool, eqb, List, [], ◌∷◌, ◌++◌, length, get_or, set, take, map, None, refl, sym, ◌∙◌, ap, subst, arith, length-set, get_or-set_same, get_or-set_other}
-use Rattle.std.specs.Prelude.{if◌then◌else◌, ◌==◌}
-use Rattle.std.proofs.lemmas.Bool.{cases_lt}
-use Rattle.std.proofs.lemmas.Bool.Decides.{eqb_tells}
-use Rattle.std.proofs.lemmas.List.{take_more, map-append, append-nil, length_push, get_or_append_left, get_or_push, get_or_past}
+use Rattle.std.proofs.Common.{◌≡◌, lit<, inl, inr, ℕ, ◌+◌, ◌<◌, ◌≤◌, ◌^◌, true, false, Bool, List, [], ◌∷◌, ◌++◌, length, get_or, set, take, map, None, refl, sym, ◌∙◌, ap, subst, arith, length-set, get_or-set_same}
+use Rattle.std.proofs.lemmas.Bool.{cases_lt, cases_eq}
+use Rattle.std.proofs.lemmas.List.{take_more, map-append, append-nil, length_push, get_or_push}
+use Rattle.std.proofs.lemmas.Grind.{common_steps}
 use Rattle.disk_model.specs.Files.{overlay, after_write, after_sync, latest}
 use Rattle.disk_memory.specs.declared.log.Call.{Call}
-use Rattle.disk_memory.specs.Held.{change_of, Change, FilePut, BytesWritten, UnderWay, FileSynced, step, replay, Held, number_of, IsReplayed, IsKept}
-use Rattle.disk_memory.specs.Steps.{noted, with_content, no_files, with_file, with_bytes, with_sync, with_text, failed_find, failed_read, failed_write, failed_print}
-use Rattle.disk_memory.proofs.Names.{found_push}
-
-pub replay-append : (cs ds : List Change) (f : ℕ) (vs : List (List ℕ)) → replay (cs ++ ds) f vs ≡ replay ds f (replay cs f vs)
-replay-append [] ds f vs = refl
-replay-append (c ∷ cs) ds f vs = replay-append cs ds f (step c f vs)
-
--- ---- a change of this file, or of another
-
-eq_self : (n : ℕ) → eqb n n ≡ true
-eq_self n = ⊎_elim (λ same. same.0) (λ other. absurd (other.1 refl)) (eqb_tells n n)
-
-eq_other : (n f : ℕ) → (f ≡ n → ⊥) → eqb n f ≡ false
-eq_other n f apart = ⊎_elim (λ same. absurd (apart (sym same.1))) (λ other. other.0) (eqb_tells n f)
-
-pub put_self : (n : ℕ) (bytes : List ℕ) (vs : List (List ℕ)) → step (FilePut n bytes) n vs ≡ bytes ∷ []
-put_self n bytes vs = ap (λ (b : Bool). if b then bytes ∷ [] else vs) (eq_self n)
-
-pub put_other : (n : ℕ) (bytes : List ℕ) (f : ℕ) → (f ≡ n → ⊥) → (vs : List (List ℕ)) → step (FilePut n bytes) f vs ≡ vs
-put_other n bytes f apart vs = ap (λ (b : Bool). if b then bytes ∷ [] else vs) (eq_other n f apart)
-
-pub write_self : (n at : ℕ) (bytes : List ℕ) (vs : List (List ℕ)) → step (BytesWritten n at bytes) n vs ≡ after_write at bytes vs
-write_self n at bytes vs = ap (λ (b : Bool). if b then after_write at bytes vs else vs) (eq_self n)
-
-pub write_other : (n at : ℕ) (bytes : List ℕ) (f : ℕ) → (f ≡ n → ⊥) → (vs : List (List ℕ)) → step (BytesWritten n at bytes) f vs ≡ vs
-write_other n at bytes f apart vs = ap (λ (b : Bool). if b then after_write at bytes vs else vs) (eq_other n f apart)
-
-pub sync_self : (n : ℕ) (vs : List (List ℕ)) → step (FileSynced n) n vs ≡ after_sync vs
-sync_self n vs = ap (λ (b : Bool). if b then after_sync vs else vs) (eq_self n)
-
-pub sync_other : (n f : ℕ) → (f ≡ n → ⊥) → (vs : List (List ℕ)) → step (FileSynced n) f vs ≡ vs
-sync_other n f apart vs = ap (λ (b : Bool). if b then after_sync vs else vs) (eq_other n f apart)
+use Rattle.disk_memory.specs.Held.{change_of, Change, FilePut, BytesWritten, UnderWay, FileSynced, step, replay, upto, Held, number_of, IsContent, IsReplayed, IsKept}
+use Rattle.disk_memory.specs.Steps.{noted, with_content, with_file, with_bytes, with_sync, failed_read, failed_write}
+use Rattle.disk_memory.specs.Laws.{all_of}
+use Rattle.disk_memory.proofs.Names.{found_push, push_before}
+use Rattle.disk_memory.proofs.Changes.{replay-append, here, elsewhere, Spares, spared_all, upto_before, upto_spared, upto_lasts}
 
 -- ---- files and changes together
 
-latest_write : (at : ℕ) (bytes : List ℕ) (vs : List (List ℕ)) → 0 < length vs → (latest (after_write at bytes vs) ≡ overlay (latest vs) at bytes) × (0 < length (after_write at bytes vs))
+latest_write : (at : ℕ) (bytes : List ℕ) (vs : List (List ℕ)) → 0 < length vs → (overlay (latest vs) at bytes ≡ latest (after_write at bytes vs)) × (0 < length (after_write at bytes vs))
 latest_write at bytes [] some = absurd (omega arith)
 latest_write at bytes (v ∷ vs) some = (refl, omega arith)
 
-latest_sync : (vs : List (List ℕ)) → latest (after_sync vs) ≡ latest vs
-latest_sync [] = refl
-latest_sync (v ∷ vs) = refl
+latest_sync : (vs : List (List ℕ)) → 0 < length vs → (latest vs ≡ latest (after_sync vs)) × (0 < length (after_sync vs))
+latest_sync [] some = absurd (omega arith)
+latest_sync (v ∷ vs) some = (refl, omega arith)
 
-some_sync : (vs : List (List ℕ)) → 0 < length vs → 0 < length (after_sync vs)
-some_sync [] some = some
-some_sync (v ∷ vs) some = omega arith
+module _ (contents new : List (List ℕ)) (changes cs : List Change) (n : ℕ) (longer : length contents ≤ length new) (there : n < length new) (first : n ≤ length contents)
+    (others : (f : ℕ) → (f ≡ n → ⊥) → (get_or new f [] ≡ get_or contents f []) × (f < length new → f < length contents))
+    (at : (get_or new n [] ≡ latest (replay cs n (replay changes n []))) × (0 < length (replay cs n (replay changes n []))))
+    (spares : (f : ℕ) → (f ≡ n → ⊥) → Spares cs f) (old : IsReplayed contents changes) where
+  -- what is not there after the changes was not there before, nor is what has a greater number
+  later_absent : (k f g : ℕ) → length changes ≤ k → f ≤ g → upto (changes ++ cs) k f ≡ [] → upto (changes ++ cs) k g ≡ []
+  later_absent k f g low le none =
+      let past : length contents ≤ f = elim (cases_lt f (length contents)) [
+        | inl below ↦ absurd (omega (arith, upto_lasts changes cs k f low (subst (λ (vs : List (List ℕ)). 0 < length vs) (sym (all_of changes f)) ((old.files f).there below)), ap length none))
+        | inr past ↦ past
+      ] in
+      elim (cases_eq g n) [
+        | inl same ↦ let is : f ≡ g = omega arith in ap (upto (changes ++ cs) k) (sym is) ∙ none
+        | inr apart ↦ upto_spared changes cs k g (spares g apart) low ∙ all_of changes g ∙ (old.files g).absent (omega arith)
+      ]
 
-module _ (contents : List (List ℕ)) (changes : List Change) (old : IsReplayed contents changes) where
-  abbrev noted_write : ℕ → ℕ → List ℕ → List Change
-  noted_write n at bytes = changes ++ BytesWritten n at bytes ∷ UnderWay ∷ []
-
-  abbrev written : ℕ → ℕ → List ℕ → List (List ℕ)
-  written n at bytes = set contents n (overlay (get_or contents n []) at bytes)
-
-  abbrev noted_put : ℕ → List ℕ → List Change
-  noted_put n bytes = changes ++ FilePut n bytes ∷ []
-
-  pub replayed_write : (n at : ℕ) (bytes : List ℕ) → n < length contents → IsReplayed (set contents n (overlay (get_or contents n []) at bytes)) (changes ++ BytesWritten n at bytes ∷ UnderWay ∷ [])
-  replayed_write n at bytes there = record {
-    same = λ f. ⊎_elim (λ (hit : (eqb n f ≡ true) × (n ≡ f)). same_here f (sym hit.1)) (λ (other : (eqb n f ≡ false) × (n ≡ f → ⊥)). same_there f (λ is. other.1 (sym is))) (eqb_tells n f);
-    there = λ f inside.
-        let below : f < length contents = omega (arith, inside, length-set contents n (overlay (get_or contents n []) at bytes)) in
-        subst (λ (vs : List (List ℕ)). 0 < length vs) (sym (replay-append changes (BytesWritten n at bytes ∷ UnderWay ∷ []) f []))
-        (elim (n == f) as (λ b. 0 < length (if b then after_write at bytes (replay changes f []) else replay changes f [])) [
-          | true ↦ (latest_write at bytes (replay changes f []) (old.there f below)).1
-          | false ↦ old.there f below
-        ]);
-    absent = λ f past.
-        let out : length contents ≤ f = omega (arith, past, length-set contents n (overlay (get_or contents n []) at bytes)) in
-        let apart : f ≢ n = omega arith in
-        replay-append changes (BytesWritten n at bytes ∷ UnderWay ∷ []) f [] ∙ write_other n at bytes f apart (replay changes f []) ∙ old.absent f out;
-  }
-    where
-      same_here : (f : ℕ) → f ≡ n → get_or (written n at bytes) f [] ≡ latest (replay (noted_write n at bytes) f [])
-      same_here f is =
-          ap (λ (g : ℕ). get_or (written n at bytes) g []) is ∙ get_or-set_same contents n (overlay (get_or contents n []) at bytes) [] there
-          ∙ ap (λ (file : List ℕ). overlay file at bytes) (old.same n)
-          ∙ sym (latest_write at bytes (replay changes n []) (old.there n there)).0
-          ∙ ap latest (sym (write_self n at bytes (replay changes n [])))
-          ∙ ap latest (sym (replay-append changes (BytesWritten n at bytes ∷ UnderWay ∷ []) n []))
-          ∙ ap (λ (g : ℕ). latest (replay (noted_write n at bytes) g [])) (sym is)
-
-      same_there : (f : ℕ) → (f ≡ n → ⊥) → get_or (written n at bytes) f [] ≡ latest (replay (noted_write n at bytes) f [])
-      same_there f apart =
-          get_or-set_other contents n f (overlay (get_or contents n []) at bytes) [] apart ∙ old.same f
-          ∙ ap latest (sym (write_other n at bytes f apart (replay changes f [])))
-          ∙ ap latest (sym (replay-append changes (BytesWritten n at bytes ∷ UnderWay ∷ []) f []))
-
-  pub replayed_sync : (n : ℕ) → n < length contents → IsReplayed contents (changes ++ FileSynced n ∷ [])
-  replayed_sync n there = record {
-    same = λ f. old.same f ∙ elim (n == f) as (λ b. latest (replay changes f []) ≡ latest (if b then after_sync (replay changes f []) else replay changes f [])) [
-      | true ↦ sym (latest_sync (replay changes f []))
-      | false ↦ refl
-    ] ∙ ap latest (sym (replay-append changes (FileSynced n ∷ []) f []));
-    there = λ f inside. subst (λ (vs : List (List ℕ)). 0 < length vs) (sym (replay-append changes (FileSynced n ∷ []) f []))
-        (elim (n == f) as (λ b. 0 < length (if b then after_sync (replay changes f []) else replay changes f [])) [ true ↦ some_sync (replay changes f []) (old.there f inside) | false ↦ old.there f inside ]);
-    absent = λ f past.
-        let apart : f ≢ n = omega arith in
-        replay-append changes (FileSynced n ∷ []) f [] ∙ sync_other n f apart (replay changes f []) ∙ old.absent f past;
+  -- changes of file n alone, which is there now
+  replayed_on : IsReplayed new (changes ++ cs)
+  replayed_on = record {
+    files = λ f. subst (IsContent new f) (sym (replay-append changes cs f [])) (elim (cases_eq f n) [
+      | inl same ↦ subst (λ (g : ℕ). IsContent new g (replay cs g (replay changes g []))) (sym same) (record { same = at.0; there = λ below. at.1; absent = λ past. absurd (omega arith) })
+      | inr apart ↦ subst (IsContent new f) (sym (spared_all cs f (replay changes f []) (spares f apart))) (record {
+        same = (others f apart).0 ∙ (old.files f).same;
+        there = λ below. (old.files f).there ((others f apart).1 below);
+        absent = λ past. (old.files f).absent (omega arith);
+      })
+    ]);
+    ordered = λ k f g le none. elim (cases_lt (length changes) k) [
+      | inl after ↦ later_absent k f g (omega arith) le none
+      | inr before ↦ upto_before changes cs k g before ∙ old.ordered k f g le (sym (upto_before changes cs k f before) ∙ none)
+    ];
   }
 
-  pub replayed_put : (n : ℕ) (bytes : List ℕ) → n ≡ length contents → IsReplayed (contents ++ bytes ∷ []) (changes ++ FilePut n bytes ∷ [])
-  replayed_put n bytes end = record {
-    same = λ f. ⊎_elim (λ (hit : (eqb n f ≡ true) × (n ≡ f)). same_here f (sym hit.1)) (λ (other : (eqb n f ≡ false) × (n ≡ f → ⊥)). same_there f (λ is. other.1 (sym is))) (eqb_tells n f);
-    there = λ f inside. subst (λ (vs : List (List ℕ)). 0 < length vs) (sym (replay-append changes (FilePut n bytes ∷ []) f []))
-        (⊎_elim
-        (λ (hit : (eqb n f ≡ true) × (n ≡ f)). subst (λ (b : Bool). 0 < length (if b then bytes ∷ [] else replay changes f [])) (sym hit.0) (lit< tt))
-        (λ (other : (eqb n f ≡ false) × (n ≡ f → ⊥)).
-        let apart : n ≢ f = other.1 in
-        subst (λ (b : Bool). 0 < length (if b then bytes ∷ [] else replay changes f [])) (sym other.0) (old.there f (omega (arith, inside, apart, length_push contents bytes))))
-        (eqb_tells n f));
-    absent = λ f past.
-        let apart : f ≢ n = omega (arith, past, length_push contents bytes) in
-        replay-append changes (FilePut n bytes ∷ []) f [] ∙ put_other n bytes f apart (replay changes f []) ∙ old.absent f (omega (arith, past, length_push contents bytes));
-  }
-    where
-      same_here : (f : ℕ) → f ≡ n → get_or (contents ++ bytes ∷ []) f [] ≡ latest (replay (noted_put n bytes) f [])
-      same_here f is =
-          get_or_push contents bytes [] f (sym (is ∙ end)) ∙ ap latest (sym (put_self n bytes (replay changes n [])))
-          ∙ ap latest (sym (replay-append changes (FilePut n bytes ∷ []) n []))
-          ∙ ap (λ (g : ℕ). latest (replay (noted_put n bytes) g [])) (sym is)
+module _ (contents : List (List ℕ)) (changes : List Change) (old : IsReplayed contents changes) (n : ℕ) where
+  set_others : (bytes : List ℕ) (f : ℕ) → (f ≡ n → ⊥) → (get_or (set contents n bytes) f [] ≡ get_or contents f []) × (f < length (set contents n bytes) → f < length contents)
+  set_others bytes f apart = grind (arith, common_steps)
 
-      same_there : (f : ℕ) → (f ≡ n → ⊥) → get_or (contents ++ bytes ∷ []) f [] ≡ latest (replay (noted_put n bytes) f [])
-      same_there f apart =
-          elsewhere f (λ is. apart (is ∙ sym end)) ∙ old.same f
-          ∙ ap latest (sym (put_other n bytes f apart (replay changes f [])))
-          ∙ ap latest (sym (replay-append changes (FilePut n bytes ∷ []) f []))
-        where
-          elsewhere : (f : ℕ) → (f ≡ length contents → ⊥) → get_or (contents ++ bytes ∷ []) f [] ≡ get_or contents f []
-          elsewhere f apart = elim (cases_lt f (length contents)) [
-            | inl below ↦ get_or_append_left contents (bytes ∷ []) [] f below
-            | inr past ↦
-                let ne : f ≢ length contents = apart in
-                get_or_past (contents ++ bytes ∷ []) f [] (omega (arith, past, ne, length_push contents bytes)) ∙ sym (get_or_past contents f [] past)
-          ]
+  replayed_write : (at : ℕ) (bytes : List ℕ) → n < length contents → IsReplayed (set contents n (overlay (get_or contents n []) at bytes)) (changes ++ BytesWritten n at bytes ∷ UnderWay ∷ [])
+  replayed_write at bytes there =
+      let vs = replay changes n [] in
+      let new = overlay (get_or contents n []) at bytes in
+      let is = here n (after_write at bytes vs) vs in
+      let now = latest_write at bytes vs ((old.files n).there there) in
+      replayed_on contents (set contents n new) changes (BytesWritten n at bytes ∷ UnderWay ∷ []) n (omega (arith, length-set contents n new)) (omega (arith, there, length-set contents n new)) (omega arith) (set_others new)
+      (get_or-set_same contents n new [] there ∙ ap (λ (file : List ℕ). overlay file at bytes) (old.files n).same ∙ now.0 ∙ ap latest (sym is), subst (λ (l : List (List ℕ)). 0 < length l) (sym is) now.1)
+      (λ f apart. (λ l. elsewhere n f (after_write at bytes l) l apart, (λ l. refl, tt))) old
 
-  pub replayed_replace : (n : ℕ) (bytes : List ℕ) → n < length contents → IsReplayed (set contents n bytes) (changes ++ FilePut n bytes ∷ [])
-  replayed_replace n bytes there = record {
-    same = λ f. ⊎_elim (λ (hit : (eqb n f ≡ true) × (n ≡ f)). same_here f (sym hit.1)) (λ (other : (eqb n f ≡ false) × (n ≡ f → ⊥)). same_there f (λ is. other.1 (sym is))) (eqb_tells n f);
-    there = λ f inside.
-        let below : f < length contents = omega (arith, inside, length-set contents n bytes) in
-        subst (λ (vs : List (List ℕ)). 0 < length vs) (sym (replay-append changes (FilePut n bytes ∷ []) f []))
-        (elim (n == f) as (λ b. 0 < length (if b then bytes ∷ [] else replay changes f [])) [ true ↦ lit< tt | false ↦ old.there f below ]);
-    absent = λ f past.
-        let out : length contents ≤ f = omega (arith, past, length-set contents n bytes) in
-        let apart : f ≢ n = omega arith in
-        replay-append changes (FilePut n bytes ∷ []) f [] ∙ put_other n bytes f apart (replay changes f []) ∙ old.absent f out;
-  }
-    where
-      same_here : (f : ℕ) → f ≡ n → get_or (set contents n bytes) f [] ≡ latest (replay (noted_put n bytes) f [])
-      same_here f is =
-          ap (λ (g : ℕ). get_or (set contents n bytes) g []) is ∙ get_or-set_same contents n bytes [] there
-          ∙ ap latest (sym (put_self n bytes (replay changes n [])))
-          ∙ ap latest (sym (replay-append changes (FilePut n bytes ∷ []) n []))
-          ∙ ap (λ (g : ℕ). latest (replay (noted_put n bytes) g [])) (sym is)
+  replayed_sync : n < length contents → IsReplayed contents (changes ++ FileSynced n ∷ [])
+  replayed_sync there =
+      let vs = replay changes n [] in
+      let is = here n (after_sync vs) vs in
+      let now = latest_sync vs ((old.files n).there there) in
+      replayed_on contents contents changes (FileSynced n ∷ []) n (omega arith) there (omega arith) (λ f apart. (refl, λ below. below))
+      ((old.files n).same ∙ now.0 ∙ ap latest (sym is), subst (λ (l : List (List ℕ)). 0 < length l) (sym is) now.1)
+      (λ f apart. (λ l. elsewhere n f (after_sync l) l apart, tt)) old
 
-      same_there : (f : ℕ) → (f ≡ n → ⊥) → get_or (set contents n bytes) f [] ≡ latest (replay (noted_put n bytes) f [])
-      same_there f apart =
-          get_or-set_other contents n f bytes [] apart ∙ old.same f
-          ∙ ap latest (sym (put_other n bytes f apart (replay changes f [])))
-          ∙ ap latest (sym (replay-append changes (FilePut n bytes ∷ []) f []))
+  replayed_put : (new : List (List ℕ)) (bytes : List ℕ) → length contents ≤ length new → n < length new → n ≤ length contents → get_or new n [] ≡ bytes → ((f : ℕ) → (f ≡ n → ⊥) → (get_or new f [] ≡ get_or contents f []) × (f < length new → f < length contents))
+      → IsReplayed new (changes ++ FilePut n bytes ∷ [])
+  replayed_put new bytes longer there first at others =
+      let is = here n (bytes ∷ []) (replay changes n []) in
+      replayed_on contents new changes (FilePut n bytes ∷ []) n longer there first others (at ∙ ap latest (sym is), subst (λ (l : List (List ℕ)). 0 < length l) (sym is) (lit< tt))
+      (λ f apart. (λ l. elsewhere n f (bytes ∷ []) l apart, tt)) old
 
 -- ---- each step
 
@@ -179,15 +94,6 @@ noted_kept false contents made changes cs old more told = absurd (cc told)
 noted_none : (keep : Bool) (changes cs : List Change) → (keep ≡ false → changes ≡ []) → keep ≡ false → changes ++ noted keep cs ≡ []
 noted_none true changes cs none untold = absurd (cc untold)
 noted_none false changes cs none untold = append-nil changes ∙ none refl
-
-pub kept_failed_find : (h : Held) → IsKept h → IsKept (failed_find h)
-kept_failed_find h k = record { few = k.few; contents = k.contents; reads = k.reads; writes = k.writes; found = k.found; replayed = k.replayed; none = k.none }
-
-pub kept_failed_print : (h : Held) → IsKept h → IsKept (failed_print h)
-kept_failed_print h k = record { few = k.few; contents = k.contents; reads = k.reads; writes = k.writes; found = k.found; replayed = k.replayed; none = k.none }
-
-pub kept_with_text : (text : List ℕ) (h : Held) → IsKept h → IsKept (with_text text h)
-kept_with_text text h k = record { few = k.few; contents = k.contents; reads = k.reads; writes = k.writes; found = k.found; replayed = k.replayed; none = k.none }
 
 pub kept_failed_read : (f : ℕ) (h : Held) → IsKept h → IsKept (failed_read f h)
 kept_failed_read f h k = record { few = k.few; contents = k.contents; reads = length-set h.reads f _ ∙ k.reads; writes = k.writes; found = k.found; replayed = k.replayed; none = k.none }
@@ -224,7 +130,7 @@ kept_with_file name bytes h few new k = record {
   reads = omega (arith, k.reads, length_push h.names name, length_push h.reads 0);
   writes = omega (arith, k.writes, length_push h.names name, length_push h.writes 0);
   found = found_push h.names name new k.found;
-  replayed = noted_kept h.keep h.contents (h.contents ++ bytes ∷ []) h.changes (FilePut (length h.names) bytes ∷ []) k.replayed (λ old. replayed_put h.contents h.changes old (length h.names) bytes (sym k.contents));
+  replayed = noted_kept h.keep h.contents (h.contents ++ bytes ∷ []) h.changes (FilePut (length h.names) bytes ∷ []) k.replayed (λ old. replayed_put h.contents h.changes old (length h.names) (h.contents ++ bytes ∷ []) bytes (omega (arith, length_push h.contents bytes)) (omega (arith, k.contents, length_push h.contents bytes)) (omega (arith, k.contents)) (get_or_push h.contents bytes [] (length h.names) k.contents) (λ g apart. push_before h.contents bytes [] (length h.names) g k.contents apart));
   none = noted_none h.keep h.changes (FilePut (length h.names) bytes ∷ []) k.none;
 }
 
@@ -235,19 +141,8 @@ kept_with_content f bytes h there k = record {
   reads = k.reads;
   writes = k.writes;
   found = k.found;
-  replayed = noted_kept h.keep h.contents (set h.contents f bytes) h.changes (FilePut f bytes ∷ []) k.replayed (λ old. replayed_replace h.contents h.changes old f bytes (omega (arith, there, k.contents)));
+  replayed = noted_kept h.keep h.contents (set h.contents f bytes) h.changes (FilePut f bytes ∷ []) k.replayed (λ old. replayed_put h.contents h.changes old f (set h.contents f bytes) bytes (omega (arith, length-set h.contents f bytes)) (omega (arith, there, k.contents, length-set h.contents f bytes)) (omega (arith, there, k.contents)) (get_or-set_same h.contents f bytes [] (omega (arith, there, k.contents))) (set_others h.contents h.changes old f bytes));
   none = noted_none h.keep h.changes (FilePut f bytes ∷ []) k.none;
-}
-
-pub kept_no_files : (keep : Bool) → IsKept (no_files keep)
-kept_no_files keep = record {
-  few = lit< tt;
-  contents = refl;
-  reads = refl;
-  writes = refl;
-  found = λ f below. absurd (omega arith);
-  replayed = λ told. record { same = λ f. refl; there = λ f inside. absurd (omega arith); absent = λ f past. refl };
-  none = λ untold. refl;
 }
 
 -- the versions after one call more, of those of the code

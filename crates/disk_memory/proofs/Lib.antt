@@ -1,9 +1,9 @@
 mod Bytes
 mod Mixtures
 mod Names
+mod Changes
 mod Kept
 mod Calls
 mod Fields
 mod Rooms
-mod Answered
 mod Leaving

@@ -1,9 +1,10 @@
 -- Files mixed by sectors.
-use Rattle.std.proofs.Common.{◌≡◌, ◌≢◌, ◌⊎◌, ⊎_elim, inl, inr, ℕ, ◌+◌, ◌-◌, ◌*◌, ◌/◌, ◌<◌, ◌≤◌, min, max, List, [], ◌∷◌, ◌++◌, length, take, drop, sym, ◌∙◌, ap, arith, add-zero, length-take, length-drop}
+use Rattle.std.proofs.Common.{◌≡◌, ◌≢◌, ◌⊎◌, ⊎_elim, inl, inr, ℕ, ◌+◌, ◌-◌, ◌*◌, ◌/◌, ◌<◌, ◌≤◌, min, max, List, [], ◌∷◌, ◌++◌, length, take, drop, sym, ◌∙◌, ap, arith, add-zero, length-take}
 use Rattle.std.proofs.lemmas.Bool.{cases_lt}
 use Rattle.std.proofs.lemmas.List.{get_or-take, get_or-drop, take-append-drop, append-nil, nil_from_length, take_all}
-use Rattle.disk_model.specs.Files.{byte, overlay, synced, SomeVersion, AgreesAt, after_write, after_sync}
-use Rattle.disk_model.proofs.Bytes.{same_file, byte_past, byte-overlay_below, byte-overlay_in, byte-overlay_above, overlay_inside, overlay_empty, overlay_no_shorter, length-overlay_inside}
+use Rattle.std.proofs.lemmas.Grind.{common_steps}
+use Rattle.disk_model.specs.Files.{byte, overlay, synced, SomeVersion, AgreesAt, after_write}
+use Rattle.disk_model.proofs.Bytes.{same_file, byte_past, byte-overlay_below, byte-overlay_in, byte-overlay_above, overlay_inside, overlay_empty, overlay_no_shorter}
 use Rattle.disk_memory.specs.Outcomes.{SameSector, IsMixture, IsPick}
 
 -- ---- one sector
@@ -29,13 +30,10 @@ module _ (mixed now new : List ℕ) (sector to : ℕ) (same : length now ≡ len
   part = take (to - from) (drop from now)
 
   length-part : from + length part ≡ to
-  length-part = omega (arith, length-take (to - from) (drop from now), length-drop from now, end, same, inside)
+  length-part = grind (arith, common_steps)
 
   is_over : new ≡ overlay mixed from part
   is_over = is ∙ over mixed from part (omega (arith, length-part, end, same))
-
-  pub length-copied : length new ≡ length mixed
-  length-copied = ap length is_over ∙ length-overlay_inside mixed from part (omega (arith, length-part, end, same))
 
   pub copied_here : SameSector sector new now
   copied_here i low high = ap (λ (l : List ℕ). byte l i) is_over ∙ elim (cases_lt i to) [
@@ -60,37 +58,17 @@ module _ (mixed now new : List ℕ) (sector to : ℕ) (same : length now ≡ len
 pub same_sectors : (a b : List ℕ) → length a ≡ length b → ((k : ℕ) → k < length b / 512 + 1 → SameSector k a b) → a ≡ b
 same_sectors a b long each = same_file a b long (λ i inside. each (i / 512) (omega arith) i (omega arith) (omega arith))
 
--- a sector past the end
-pub past_sector : (a b : List ℕ) (k : ℕ) → length a ≡ length b → length b / 512 + 1 ≤ k → SameSector k a b
-past_sector a b k long past i low high = byte_past a i (omega arith) ∙ sym (byte_past b i (omega arith))
-
 pub same_on : (k : ℕ) (a b c : List ℕ) → SameSector k a b → SameSector k b c → SameSector k a c
-same_on k a b c first second i low high = first i low high ∙ second i low high
+same_on k a b c first second i low high = grind (arith, common_steps)
 
 pub either_on : (k : ℕ) (a b c d : List ℕ) → SameSector k a b → SameSector k b c ⊎ SameSector k b d → SameSector k a c ⊎ SameSector k a d
-either_on k a b c d first second = ⊎_elim (λ (old : SameSector k b c). inl (same_on k a b c first old)) (λ (new : SameSector k b d). inr (same_on k a b d first new)) second
+either_on k a b c d first second = grind (arith, common_steps)
 
 -- ---- versions
 
 some_map : (P Q : List ℕ → Type 0) (vs : List (List ℕ)) → ((v : List ℕ) → P v → Q v) → SomeVersion P vs → SomeVersion Q vs
 some_map P Q [] f some = some
 some_map P Q (v ∷ vs) f some = ⊎_elim (λ (here : P v). inl (f v here)) (λ (later : SomeVersion P vs). inr (some_map P Q vs f later)) some
-
-pub mixture_put : (choice : ℕ) (bytes now mixed : List ℕ) (shortest : ℕ) → now ≡ bytes → mixed ≡ bytes → shortest ≡ length bytes → IsMixture choice (bytes ∷ []) now mixed shortest
-mixture_put choice bytes now mixed shortest is_now is_mixed is_shortest = record {
-  some = omega arith;
-  is_now = sym is_now;
-  is_shortest = sym is_shortest;
-  grows = omega (arith, is_shortest, ap length is_now);
-  long = ap length (is_mixed ∙ sym is_now);
-  sectors = λ k. inl (λ i low high. ap (λ (l : List ℕ). byte l i) is_mixed);
-  first = λ choice i. ap (λ (l : List ℕ). byte l i) is_mixed;
-  last = λ choice. is_mixed ∙ sym is_now;
-}
-
-pub mixture_synced : (choice : ℕ) (versions : List (List ℕ)) (now old mixed : List ℕ) (shortest end : ℕ) → IsMixture choice versions now old shortest → mixed ≡ now → end ≡ length now → IsMixture choice (after_sync versions) now mixed end
-mixture_synced choice [] now old mixed shortest end was is_mixed is_end = absurd (omega (arith, was.some))
-mixture_synced choice (v ∷ vs) now old mixed shortest end was is_mixed is_end = mixture_put choice v now mixed end (sym was.is_now) (is_mixed ∙ sym was.is_now) (is_end ∙ ap length (sym was.is_now))
 
 -- a mixture of a file that was made longer by zeros
 pub sectors_padded : (old longer new now : List ℕ) → ((i : ℕ) → byte longer i ≡ byte old i) → ((k : ℕ) → SameSector k new longer ⊎ SameSector k new now) → (k : ℕ) → SameSector k new old ⊎ SameSector k new now

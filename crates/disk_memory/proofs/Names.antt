@@ -1,6 +1,6 @@
 -- Names, and one name more.
 use Rattle.std.proofs.Common.{◌≡◌, inl, inr, ℕ, ◌<◌, Bool, true, false, List, [], ◌∷◌, ◌++◌, length, get_or, Some, None, refl, sym, ◌∙◌, ap, arith}
-use Rattle.std.specs.Prelude.{not}
+use Rattle.std.specs.Prelude.{Option, not}
 use Rattle.std.specs.List.{position, position_or_len}
 use Rattle.std.specs.Str.{bytes_eq}
 use Rattle.std.proofs.lemmas.Bool.{cases_lt}
@@ -10,6 +10,7 @@ use Rattle.std.proofs.lemmas.List.Folds.{position_or_len_push}
 use Rattle.std.proofs.lemmas.List.Sums.{position_or_len_is, prefix_len-le-length}
 use Rattle.std.proofs.lemmas.List.Quantifiers.{position-Some}
 use Rattle.std.proofs.lemmas.Slice.Eq.{bytes_eq-Decides}
+use Rattle.std.proofs.lemmas.Grind.{common_steps}
 use Rattle.disk_memory.specs.Held.{number_of}
 
 -- ---- by any test
@@ -57,6 +58,17 @@ number_push_apart names name other apart = place_apart (λ n. bytes_eq n other) 
 
 pub number_push_new : (names : List (List ℕ)) (name : List ℕ) → number_of names name ≡ None → number_of (names ++ name ∷ []) name ≡ Some (length names)
 number_push_new names name none = place_new (λ n. bytes_eq n name) names name none (same_name name)
+
+pub number_or_none : (names : List (List ℕ)) (name : List ℕ) → ((g : ℕ) → number_of names name ≡ Some g → ⊥) → number_of names name ≡ None
+number_or_none names name never = by_cases (number_of names name) refl
+  where
+    by_cases : (at : Option ℕ) → number_of names name ≡ at → number_of names name ≡ None
+    by_cases None is = is
+    by_cases (Some g) is = absurd (never g is)
+
+-- but for the last, a list with one more is as it was
+pub push_before : {A : Type 0} (xs : List A) (x d : A) (n f : ℕ) → length xs ≡ n → (f ≡ n → ⊥) → (get_or (xs ++ x ∷ []) f d ≡ get_or xs f d) × (f < length (xs ++ x ∷ []) → f < length xs)
+push_before xs x d n f end other = grind (arith, common_steps)
 
 -- each file is found by its name, with one more too
 pub found_push : (names : List (List ℕ)) (name : List ℕ) → number_of names name ≡ None → ((f : ℕ) → f < length names → number_of names (get_or names f []) ≡ Some f)

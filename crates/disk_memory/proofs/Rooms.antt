@@ -1,11 +1,10 @@
 -- How room grows.
-use Rattle.std.proofs.Common.{◌≡◌, inl, inr, ℕ, zero, suc, ◌+◌, ◌-◌, ◌<◌, ◌≤◌, List, [], ◌∷◌, ◌++◌, length, get_or, set, map, refl, sym, ◌∙◌, ap, subst, arith, length-append, get_or-set_other, get_or-set_same, length-set, below_more}
+use Rattle.std.proofs.Common.{◌≡◌, ℕ, ◌+◌, ◌-◌, ◌<◌, ◌≤◌, List, [], ◌∷◌, ◌++◌, length, get_or, set, map, refl, sym, ◌∙◌, ap, subst, arith, length-append, get_or-set_same, below_more}
 use Rattle.std.specs.Prelude.{string_bytes}
-use Rattle.std.proofs.lemmas.Bool.{cases_lt, cases_eq}
-use Rattle.std.proofs.lemmas.List.{length-map, map-set, get_or_append_left, get_or-append_right, length_push, get_or-take, length-take}
-use Rattle.std.proofs.lemmas.Grind.{get_or-set_at}
+use Rattle.std.proofs.lemmas.List.{length-map, map-set, get_or-append_right}
+use Rattle.std.proofs.lemmas.Grind.{common_steps}
 use Rattle.disk_memory.specs.declared.files.File.{File}
-use Rattle.disk_memory.specs.Room.{Room, AllFrom, HasRoom, IsWider, IsRoomier, HasMoreSpares, with_place, less_spare, lengths_of, name_lengths_of, room_of, IsSameFiles}
+use Rattle.disk_memory.specs.Room.{Room, AllFrom, HasRoom, IsWider, IsRoomier, HasMoreSpares, lengths_of, name_lengths_of, room_of, IsSameFiles}
 use Rattle.disk_memory.proofs.Fields.{map-set_same, map_read}
 
 -- ---- numbers
@@ -17,35 +16,19 @@ pub wider_on : (a b c : List ℕ) → IsWider a b → IsWider b c → IsWider a 
 wider_on a b c first second = record { long = second.long ∙ first.long; each = λ i. omega (arith, first.each i, second.each i) }
 
 pub wider_set : (xs : List ℕ) (n v : ℕ) → n < length xs → get_or xs n 0 ≤ v → IsWider xs (set xs n v)
-wider_set xs n v there more = record {
-  long = length-set xs n v;
-  each = λ i. elim (cases_eq i n) [
-    | inl same ↦ omega (arith, more, get_or-set_at xs n i v 0 same there, ap (λ (k : ℕ). get_or xs k 0) same)
-    | inr apart ↦ omega (arith, get_or-set_other xs n i v 0 apart)
-  ];
-}
+wider_set xs n v there more = grind (arith, common_steps)
 
 -- as many numbers at least as far
 pub from_wider : (least : ℕ) (xs ys : List ℕ) → AllFrom least xs → IsWider xs ys → AllFrom least ys
-from_wider least xs ys all wider i inside = omega (arith, all i (omega (arith, wider.long)), wider.each i)
+from_wider least xs ys all wider i inside = grind (arith, common_steps)
 
 pub from_append : (least : ℕ) (xs ys : List ℕ) → AllFrom least xs → AllFrom least ys → AllFrom least (xs ++ ys)
-from_append least xs ys first second i inside = elim (cases_lt i (length xs)) [
-  | inl below ↦ subst (λ (k : ℕ). least ≤ k) (sym (get_or_append_left xs ys 0 i below)) (first i below)
-  | inr past ↦ omega (arith, second (i - length xs) (omega (arith, inside, past, length-append xs ys)), get_or-append_right xs ys (length xs) i 0 refl past)
-]
+from_append least xs ys first second i inside = grind (arith, common_steps)
 
 pub from_push : (least : ℕ) (xs : List ℕ) (x : ℕ) → AllFrom least xs → least ≤ x → AllFrom least (xs ++ x ∷ [])
-from_push least xs x all last = from_append least xs (x ∷ []) all one
-  where
-    one : AllFrom least (x ∷ [])
-    one zero inside = last
-    one (suc i) inside = absurd (omega arith)
+from_push least xs x all last = grind (arith, common_steps)
 
 -- ---- files
-
-pub same_files : (files : List File) → IsSameFiles files files
-same_files files = record { names = refl; contents = refl; reads = refl; writes = refl }
 
 pub same_files_on : (a b c : List File) → IsSameFiles a b → IsSameFiles b c → IsSameFiles a c
 same_files_on a b c first second = record {
@@ -84,30 +67,9 @@ room_same places files more spare printed same = ap (λ (l : List ℕ). record {
 pub room_wider : (places : ℕ) (files more spare : List File) (printed : ℕ) → IsWider (lengths_of files) (lengths_of more) → IsRoomier (room_of places files spare printed) (room_of places more spare printed)
 room_wider places files more spare printed wider = record { places = omega arith; files = wider; names = wider_same (name_lengths_of spare); spares = wider_same (lengths_of spare); printed = omega arith }
 
-pub roomier_same : (a : Room) → IsRoomier a a
-roomier_same a = record { places = omega arith; files = wider_same a.files; names = wider_same a.names; spares = wider_same a.spares; printed = omega arith }
-
-pub roomier_on : (a b c : Room) → IsRoomier a b → IsRoomier b c → IsRoomier a c
-roomier_on a b c first second = record {
-  places = omega arith;
-  files = wider_on a.files b.files c.files first.files second.files;
-  names = wider_on a.names b.names c.names first.names second.names;
-  spares = wider_on a.spares b.spares c.spares first.spares second.spares;
-  printed = omega arith;
-}
-
 -- room stays where there is as much at least
 pub room_on : (more size : ℕ) (a b : Room) → IsRoomier a b → HasRoom more size a → HasRoom more size b
-room_on more size a b wider has = record {
-  places = omega (arith, has.places, wider.places, wider.files.long);
-  numbers = omega (arith, has.numbers, wider.files.long);
-  some = omega (arith, has.some, wider.spares.long);
-  paired = omega (arith, has.paired, wider.names.long, wider.spares.long);
-  names = λ i low high. omega (arith, has.names i (omega (arith, low, wider.names.long)) (omega (arith, high, wider.names.long)), wider.names.each i);
-  spares = λ i low high. omega (arith, has.spares i (omega (arith, low, wider.spares.long)) (omega (arith, high, wider.spares.long)), wider.spares.each i);
-  files = from_wider size a.files b.files has.files wider.files;
-  text = omega (arith, has.text, wider.printed);
-}
+room_on more size a b wider has = grind (arith, common_steps)
 
 -- and where more files are kept before the others
 last_of : (least more : ℕ) (before xs ys : List ℕ) → ys ≡ before ++ xs → more ≤ length xs → ((i : ℕ) → i < length xs → length xs ≤ i + more → least ≤ get_or xs i 0) → (i : ℕ) → i < length ys → length ys ≤ i + more → least ≤ get_or ys i 0
@@ -127,40 +89,3 @@ room_spares more size a b kept has = record {
   files = subst (AllFrom size) (sym kept.files) has.files;
   text = omega (arith, has.text, kept.printed);
 }
-
--- one of the kept files is taken
-pub room_less : (more size : ℕ) (a : Room) → HasRoom (more + 1) size a → HasRoom more size (less_spare a)
-room_less more size a has = record {
-  places = omega (arith, has.places);
-  numbers = omega (arith, has.numbers);
-  some = omega (arith, has.some, length-take (length a.spares - 1) a.spares);
-  paired = omega (arith, has.paired, length-take (length a.spares - 1) a.spares, length-take (length a.names - 1) a.names);
-  names = λ i low high. let below : i < length a.names - 1 = omega (arith, low, length-take (length a.names - 1) a.names) in
-      omega (arith, has.names i (omega arith) (omega (arith, high, length-take (length a.names - 1) a.names)), get_or-take (length a.names - 1) a.names i 0 below);
-  spares = λ i low high. let below : i < length a.spares - 1 = omega (arith, low, length-take (length a.spares - 1) a.spares) in
-      omega (arith, has.spares i (omega arith) (omega (arith, high, length-take (length a.spares - 1) a.spares)), get_or-take (length a.spares - 1) a.spares i 0 below);
-  files = has.files;
-  text = has.text;
-}
-
--- and made
-pub room_made : (more size : ℕ) (a b : Room) (long : ℕ) → HasRoom (more + 1) size a → size ≤ long → IsRoomier (with_place long (less_spare a)) b → HasRoom more size b
-room_made more size a b long has wide wider =
-    let less = room_less more size a has in
-    room_on more size (with_place long (less_spare a)) b wider (record {
-      places = omega (arith, has.places, length_push a.files long);
-      numbers = omega (arith, has.numbers, length_push a.files long);
-      some = less.some;
-      paired = less.paired;
-      names = less.names;
-      spares = less.spares;
-      files = from_push size a.files long less.files wide;
-      text = less.text;
-    })
-
--- the last of the kept files has room
-pub last_spare : (more size : ℕ) (a : Room) → HasRoom (more + 1) size a → (0 < length a.spares) × (size ≤ get_or a.spares (length a.spares - 1) 0)
-last_spare more size a has = let some : 0 < length a.spares = omega (arith, has.some) in (some, has.spares (length a.spares - 1) (omega arith) (omega arith))
-
-pub last_name : (more size : ℕ) (a : Room) → HasRoom (more + 1) size a → (0 < length a.names) × (4096 ≤ get_or a.names (length a.names - 1) 0)
-last_name more size a has = let some : 0 < length a.names = omega (arith, has.some, has.paired) in (some, has.names (length a.names - 1) (omega arith) (omega arith))

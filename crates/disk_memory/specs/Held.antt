@@ -67,18 +67,20 @@ world_of h = record {
   past = upto h.changes;
   prints = true;
   printed = h.printed;
-  faults = h.faults;
-  read_faults = λ f. get_or h.reads f 0;
-  write_faults = λ f. get_or h.writes f 0;
-  print_faults = h.print_faults;
+  faults = record { shared = h.faults; reads = λ f. get_or h.reads f 0; writes = λ f. get_or h.writes f 0; prints = h.print_faults };
   wire = no_wire;
 }
 
--- the files are those that the changes made, where these are kept
+-- these are the versions of file f, which has none where it is not there
+pub record IsContent (contents : List (List ℕ)) (f : ℕ) (versions : List (List ℕ)) : Type 0 where
+  pub same : get_or contents f [] ≡ latest versions
+  pub there : f < length contents → 0 < length versions
+  pub absent : length contents ≤ f → versions ≡ []
+
+-- the files are those that the changes made, and were made in the order of their numbers
 pub record IsReplayed (contents : List (List ℕ)) (changes : List Change) : Type 0 where
-  pub same : (f : ℕ) → get_or contents f [] ≡ latest (replay changes f [])
-  pub there : (f : ℕ) → f < length contents → 0 < length (replay changes f [])
-  pub absent : (f : ℕ) → length contents ≤ f → replay changes f [] ≡ []
+  pub files : (f : ℕ) → IsContent contents f (replay changes f [])
+  pub ordered : (k f g : ℕ) → f ≤ g → upto changes k f ≡ [] → upto changes k g ≡ []
 
 -- what is true of each host
 pub record IsKept (h : Held) : Type 0 where

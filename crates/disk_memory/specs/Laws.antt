@@ -52,7 +52,7 @@ is_latest file (v ∷ vs) is = is
 
 latest_upto : (keep : Bool) (contents : List (List ℕ)) (changes : List Change) (f : ℕ) → (keep ≡ true → IsReplayed contents changes) → (keep ≡ false → changes ≡ []) → IsLatest (get_or contents f []) (upto changes (length changes) f)
 latest_upto true contents changes f replayed none =
-    is_latest (get_or contents f []) (upto changes (length changes) f) ((replayed refl).same f ∙ ap latest (sym (all_of changes f)))
+    is_latest (get_or contents f []) (upto changes (length changes) f) (((replayed refl).files f).same ∙ ap latest (sym (all_of changes f)))
 latest_upto false contents changes f replayed none =
     subst (IsLatest (get_or contents f [])) (sym (none_upto changes (length changes) f (none refl))) tt
 
@@ -68,10 +68,10 @@ world_sound h kept = record {
   latest = λ f. latest_upto h.keep h.contents h.changes f kept.replayed kept.none;
   told = λ k f. always_told (upto h.changes k f);
   there = λ name f told found.
-      subst (λ (vs : List (List ℕ)). 0 < length vs) (sym (all_of h.changes f)) ((kept.replayed told).there f (omega (arith, kept.contents, (number_found h.names name f found).0)));
+      subst (λ (vs : List (List ℕ)). 0 < length vs) (sym (all_of h.changes f)) (((kept.replayed told).files f).there (omega (arith, kept.contents, (number_found h.names name f found).0)));
   absent = λ f told nameless. elim (cases_lt f (length h.names)) [
     | inl below ↦ absurd (nameless (get_or h.names f []) (kept.found f below))
-    | inr past ↦ all_of h.changes f ∙ (kept.replayed told).absent f (omega (arith, kept.contents, past))
+    | inr past ↦ all_of h.changes f ∙ ((kept.replayed told).files f).absent (omega (arith, kept.contents, past))
   ];
   apart = λ a b f first second. sym (number_found h.names a f first).1 ∙ (number_found h.names b f second).1;
 }

@@ -1,7 +1,7 @@
 -- What a crash may leave, by a choice.
-use Rattle.std.specs.Prelude.{◌≡◌, ℕ, ◌+◌, ◌*◌, ◌<◌, ◌≤◌, List, [], ◌∷◌, length, Option, Some, None, option_map, if◌then◌else◌, nat_lt, IsTrue}
+use Rattle.std.specs.Prelude.{◌≡◌, ℕ, ◌+◌, ◌*◌, ◌<◌, ◌≤◌, List, [], ◌∷◌, length, Option, Some, None, if◌then◌else◌, nat_lt, IsTrue}
 use Rattle.disk_model.specs.Files.{byte, latest, synced, SomeVersion, IsOutcome}
-use Rattle.disk_model.specs.World.{World, versions, IsLeftAt}
+use Rattle.disk_model.specs.World.{World, Faults, versions, IsLeftAt, BeginsWith}
 use Rattle.disk_memory.specs.declared.draft.Draft.{Draft}
 
 -- sector k of one file is that of another, zeros behind the ends
@@ -35,15 +35,32 @@ abbrev pub IsPicked : ℕ → List (List ℕ) → Option (List ℕ) → Type 0
 IsPicked choice versions None = versions ≡ []
 IsPicked choice versions (Some file) = IsPick choice versions file
 
--- what one host has of each file of another, by its name
-abbrev pub left_of : World → World → ℕ → Option (List ℕ)
-left_of old new f = if nat_lt f old.given then option_map new.seen (new.found (old.named f)) else None
+-- the files that a host has, by their numbers
+abbrev pub files_of : World → ℕ → Option (List ℕ)
+files_of w f = if nat_lt f w.given then Some (w.seen f) else None
 
--- a host has what a crash of another at this moment may leave, all of it synced, and nothing else; at choice 0 what was synced, at choice 1 what reads gave
+-- the number of a name, if it is below this
+abbrev pub below : ℕ → Option ℕ → Option ℕ
+below n None = None
+below n (Some f) = if nat_lt f n then Some f else None
+
+-- no call failed
+pub record IsUnfailed (faults : Faults) : Type 0 where
+  pub shared : faults.shared ≡ 0
+  pub reads : (f : ℕ) → faults.reads f ≡ 0
+  pub writes : (f : ℕ) → faults.writes f ≡ 0
+  pub prints : faults.prints ≡ 0
+
+-- A host has what a crash of another at this moment may leave, by the same numbers and names, all of it synced, and nothing else:
+-- nothing is printed and no call failed. At choice 0 what was synced, at choice 1 what reads gave.
 pub record IsLeft (choice moment : ℕ) (old new : World) : Type 0 where
-  pub left : IsLeftAt old moment (left_of old new)
-  pub first : choice ≡ 0 → (f : ℕ) (file : List ℕ) → left_of old new f ≡ Some file → file ≡ synced (old.past moment f)
-  pub last : choice ≡ 1 → (f : ℕ) (file : List ℕ) → left_of old new f ≡ Some file → file ≡ latest (old.past moment f)
-  pub only : (name : List ℕ) → old.found name ≡ None → new.found name ≡ None
+  pub left : IsLeftAt old moment (files_of new)
+  pub begins : BeginsWith (files_of new) new
+  pub first : choice ≡ 0 → (f : ℕ) → f < new.given → new.seen f ≡ synced (old.past moment f)
+  pub last : choice ≡ 1 → (f : ℕ) → f < new.given → new.seen f ≡ latest (old.past moment f)
+  pub named : (f : ℕ) → f < new.given → (f < old.given) × (new.named f ≡ old.named f)
+  pub found : (name : List ℕ) → new.found name ≡ below new.given (old.found name)
   pub outcomes : IsTrue new.outcomes
   pub settled : (f : ℕ) → f < new.given → versions new f ≡ new.seen f ∷ []
+  pub printed : new.printed ≡ []
+  pub unfailed : IsUnfailed new.faults

@@ -1,7 +1,7 @@
 -- What becomes of what a host holds at each call.
 use Rattle.std.specs.Prelude.{◌≡◌, ◌⊎◌, ℕ, ◌+◌, ◌-◌, ◌^◌, Bool, List, [], ◌∷◌, ◌++◌, length, get_or, set, min, max, Option, Some, None, if◌then◌else◌}
 use Rattle.disk_model.specs.Files.{overlay}
-use Rattle.disk_model.specs.World.{World, versions, Runs, making, StepsBefore}
+use Rattle.disk_model.specs.World.{World, versions, Runs, making, StepsBefore, IsQuiet}
 use Rattle.disk_memory.specs.Held.{Held, Change, FilePut, BytesWritten, UnderWay, FileSynced}
 
 -- a count that rose, up to the largest; it never falls
@@ -69,7 +69,7 @@ pub record HasPut (name bytes : List ℕ) (f : ℕ) (old new : World) : Type 0 w
   pub found : new.found name ≡ Some f
   pub seen : new.seen f ≡ bytes
   pub versions : versions new f ≡ if old.outcomes then bytes ∷ [] else []
-  pub faults : new.faults ≡ old.faults
+  pub quiet : IsQuiet old new
 
 -- a file more, if there is one
 abbrev pub with_some : List ℕ → Option (List ℕ) → Held → Held

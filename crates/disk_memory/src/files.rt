@@ -37,6 +37,7 @@ fn roomy(alloc: Global, size: usize) -> Result<File, AllocError>
 }
 
 // So many of these.
+#[tactic(auto, using(crate::proofs::Rooms::from_push, std::proofs::lemmas::List::length_push))]
 pub(crate) fn roomy_files(alloc: Global, count: usize, size: usize) -> Result<Vec<File>, AllocError>
     ensures count { IfOk result (λ files. length files.items ≡ count) }
     ensures names { IfOk result (λ files. AllFrom 4096 (name_lengths_of files.items)) }
@@ -226,6 +227,7 @@ pub(crate) fn refill(
 }
 
 // Fills a buffer from an offset on.
+#[tactic(auto, using(disk_model::proofs::Bytes::is_reading))]
 pub(crate) fn read(from: &[u8], at: u64, out: &mut [u8])
     requires { at + length out.old ≤ 2 ^ 62 }
     ensures { out.new ≡ reading from.now at (length out.old) }

@@ -457,7 +457,7 @@ impl Depot for MemoryHost {
     ghost use Rattle.disk_memory.specs.Host.{held, told_by, room, IsCounted, FailsByNumber, IsReady, Stays, KeepsRoom, KeepsRoomButOne};
     ghost use Rattle.disk_memory.specs.Room.{HasRoom};
     ghost use Rattle.disk_model.specs.Files.{reading};
-    ghost use Rattle.disk_model.specs.World.{versions, IsGiven, Runs, nothing, reads_of, Writes, HasWritten, Syncs, HasSynced, IsMade, MayMake, FindCause, ReadCause, WriteCause};
+    ghost use Rattle.disk_model.specs.World.{versions, IsGiven, Runs, nothing, reads_of, Writes, HasWritten, Syncs, HasSynced, IsMade, MayMake, FindCause, ReadCause, WriteCause, IsQuiet};
     ghost use Rattle.disk_memory.specs.Laws.{world_sound};
 
     ghost sound = { λ host. world_sound (held host) host.kept };
@@ -466,6 +466,7 @@ impl Depot for MemoryHost {
         ensures found { IfOk result (λ file. IsTrue (told_by self.old).tells → option_map (λ f. f.0) file ≡ (told_by self.old).found name.now) }
         ensures given { IfOk result (λ file. IfSome file (λ f. IsGiven f.0 name.now (told_by self.new))) }
         ensures run { Runs nothing (told_by self.old) (told_by self.new) }
+        ensures quiet { OnOk result (IsQuiet (told_by self.old) (told_by self.new)) }
         ensures cause { FindCause (told_by self.old) (told_by self.new) result }
         ensures counted { IsCounted self.old self.new result }
         ensures sure { FailsByNumber self.old self.new result }
@@ -486,6 +487,7 @@ impl Depot for MemoryHost {
         ensures made { MatchResult result
             (λ made. IsMade made name.now (told_by self.old) (told_by self.new))
             (λ _. (f : ℕ) × MayMake name.now f (told_by self.old) (told_by self.new)) }
+        ensures quiet { OnOk result (IsQuiet (told_by self.old) (told_by self.new)) }
         ensures cause { FindCause (told_by self.old) (told_by self.new) result }
         ensures counted { IsCounted self.old self.new result }
         ensures sure { (more size : ℕ) → HasRoom (more + 1) size (room self.old) → (told_by self.old).outcomes ≡ false → length name.now ≤ 4096 → FailsByNumber self.old self.new result }
@@ -513,6 +515,7 @@ impl Depot for MemoryHost {
         requires { file.0 < (told_by self.old).given }
         ensures size { IfOk result (λ n. IsTrue (told_by self.old).tells → n ≡ length ((told_by self.old).seen file.0)) }
         ensures run { Runs (reads_of file.0) (told_by self.old) (told_by self.new) }
+        ensures quiet { OnOk result (IsQuiet (told_by self.old) (told_by self.new)) }
         ensures cause { ReadCause (told_by self.old) (told_by self.new) file.0 result }
         ensures counted { IsCounted self.old self.new result }
         ensures sure { FailsByNumber self.old self.new result }
@@ -531,6 +534,7 @@ impl Depot for MemoryHost {
         requires end { at + length out.old ≤ 2 ^ 62 }
         ensures bytes { OnOk result (IsTrue (told_by self.old).tells → out.new ≡ reading ((told_by self.old).seen file.0) at (length out.old)) }
         ensures run { Runs (reads_of file.0) (told_by self.old) (told_by self.new) }
+        ensures quiet { OnOk result (IsQuiet (told_by self.old) (told_by self.new)) }
         ensures cause { ReadCause (told_by self.old) (told_by self.new) file.0 result }
         ensures counted { IsCounted self.old self.new result }
         ensures sure { FailsByNumber self.old self.new result }
@@ -550,6 +554,7 @@ impl Depot for MemoryHost {
         requires end { at + length bytes.now ≤ 2 ^ 62 }
         ensures call { Writes file.0 at bytes.now (told_by self.old) (told_by self.new) }
         ensures done { OnOk result (HasWritten file.0 at bytes.now (told_by self.old) (told_by self.new)) }
+        ensures quiet { OnOk result (IsQuiet (told_by self.old) (told_by self.new)) }
         ensures cause { WriteCause (told_by self.old) (told_by self.new) file.0 result }
         ensures counted { IsCounted self.old self.new result }
         ensures sure { (more size : ℕ) → HasRoom more size (room self.old) → (told_by self.old).outcomes ≡ false → at + length bytes.now ≤ size → FailsByNumber self.old self.new result }
@@ -574,6 +579,7 @@ impl Depot for MemoryHost {
         ensures call { Syncs file.0 (told_by self.old) (told_by self.new) }
         ensures done { OnOk result (HasSynced file.0 (told_by self.old) (told_by self.new)) }
         ensures failed { OnErr result (versions (told_by self.new) file.0 ≡ versions (told_by self.old) file.0) }
+        ensures quiet { OnOk result (IsQuiet (told_by self.old) (told_by self.new)) }
         ensures cause { WriteCause (told_by self.old) (told_by self.new) file.0 result }
         ensures counted { IsCounted self.old self.new result }
         ensures sure { (told_by self.old).outcomes ≡ false → FailsByNumber self.old self.new result }
@@ -597,12 +603,13 @@ impl Depot for MemoryHost {
 impl Console for MemoryHost {
     ghost use Rattle.disk_memory.specs.Host.{told_by, room, IsCounted, FailsByNumber, IsReady, Stays, KeepsRoom};
     ghost use Rattle.disk_memory.specs.Room.{HasRoom};
-    ghost use Rattle.disk_model.specs.World.{Runs, only_text, PrintCause, PrintsPart};
+    ghost use Rattle.disk_model.specs.World.{Runs, only_text, PrintCause, IsQuiet, PrintsPart};
 
     fn print(&mut self, text: &[u8]) -> Result<(), Failed>
         ensures printed { OnOk result (IsTrue (told_by self.old).prints → (told_by self.new).printed ≡ (told_by self.old).printed ++ text.now) }
         ensures part { PrintsPart text.now (told_by self.old) (told_by self.new) }
         ensures run { Runs only_text (told_by self.old) (told_by self.new) }
+        ensures quiet { OnOk result (IsQuiet (told_by self.old) (told_by self.new)) }
         ensures cause { PrintCause (told_by self.old) (told_by self.new) result }
         ensures counted { IsCounted self.old self.new result }
         ensures sure { (more size : ℕ) → HasRoom more size (room self.old) → length (told_by self.old).printed + length text.now ≤ size → FailsByNumber self.old self.new result }

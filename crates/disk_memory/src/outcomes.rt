@@ -56,6 +56,7 @@ fn length_between(choice: u64, file: u32, shortest: usize, longest: usize) -> us
 }
 
 // Copies one sector.
+#[tactic(auto, using(crate::proofs::Mixtures::copied_here, crate::proofs::Mixtures::copied_elsewhere))]
 fn copy_sector(mixed: &mut [u8], now: &[u8], sector: usize)
     requires long { length now.now ≡ length mixed.old }
     requires inside { 512 * sector ≤ length mixed.old }

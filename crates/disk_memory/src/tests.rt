@@ -1,8 +1,9 @@
 ghost use Rattle.std.specs.Prelude.{◌≡◌, ◌+◌, ◌<◌, ◌≤◌, length, IsOk};
 ghost use Rattle.disk_memory.specs.Host.{told_by, IsReady};
 
-use crate::MemoryHost;
+use crate::{Memory, MemoryHost};
 use disk_model::{Console, Depot, Failed, FileNo, Made};
+use std::alloc::Global;
 
 // Makes a file, writes past its end, reads around that. How long the file is then.
 fn make_and_read<H: Depot + Console>(
@@ -52,6 +53,13 @@ fn the_calls_named_fail(rt: HostRuntime) {
         );
         assert_eq!(rt; host.calls(), number);
         assert_eq!(rt; host.file("old"), Some(b"23".as_slice()));
+        let disk = match number {
+            1 => None,
+            2 => Some(b"".as_slice()),
+            _ => Some(b"\0\0\0abc".as_slice()),
+        };
+        assert_eq!(rt; host.file("disk"), disk, "at {number}");
+        assert_eq!(rt; host.printed(), b"".as_slice());
     }
 }
 
@@ -68,31 +76,83 @@ fn moments_are_counted(rt: HostRuntime) {
     assert_eq!(rt; host.file("disk"), Some(b"12abc".as_slice()));
 }
 
-#[test]
-fn a_crash_leaves_old_and_new_sectors(rt: HostRuntime) {
-    let mut host = MemoryHost::new(rt.alloc(), true).expect(&rt, "memory");
-    host.put_file("disk", &[0; 1024]).expect(&rt, "memory");
-    if let Ok(Some(file)) = host.find("disk") {
-        host.write_at(file, 0, &[1; 1024]).expect(&rt, "memory");
+// Makes a file of two sectors, all of it synced, writes both, writes the second and two bytes more, and syncs that.
+fn write_by_turns(host: &mut MemoryHost) -> Result<(), Failed> {
+    let Made::New(file) = host.make("disk")? else {
+        return Err(Failed);
+    };
+    host.write_at(file, 0, &[b'a'; 1024])?;
+    host.sync(file)?;
+    host.write_at(file, 0, &[b'b'; 1024])?;
+    host.write_at(file, 512, &[b'c'; 514])?;
+    host.sync(file)?;
+    host.print(b"done")
+}
+
+// A file by a word: a letter for each of two sectors, and then its last bytes.
+fn spelled(alloc: Global, word: &[u8]) -> Result<Vec<u8>, Memory> {
+    let mut file = Vec::new(alloc);
+    if let [first, second, rest @ ..] = word {
+        file.resize(512, *first)?;
+        file.resize(1024, *second)?;
+        file.extend_from_slice(rest)?;
     }
-    let mut seen = [false; 4];
-    if host.moments() == 4 {
-        let none = host.pick_outcome(0, 5).expect(&rt, "memory");
-        assert_eq!(rt; none.file("disk"), None);
-        for choice in 0..64 {
-            let left = host.pick_outcome(2, choice).expect(&rt, "memory");
-            let bytes = left.file("disk").expect(&rt, "a file");
-            if bytes.len() == 1024 {
-                assert_eq!(rt; bytes[0], bytes[511]);
-                assert_eq!(rt; bytes[512], bytes[1023]);
-                let kind = if bytes[0] == 0 { 0 } else { 2 } + if bytes[512] == 0 { 0 } else { 1 };
-                seen[kind] = true;
-                assert_eq!(rt; choice == 0 && kind != 0, false);
-                assert_eq!(rt; choice == 1 && kind != 3, false);
-            }
+    Ok(file)
+}
+
+fn all_spelled(alloc: Global, words: &str) -> Result<Vec<Vec<u8>>, Memory> {
+    let mut files = Vec::new(alloc);
+    for word in words.split(' ') {
+        files.push(spelled(alloc, word.as_bytes())?)?;
+    }
+    Ok(files)
+}
+
+// How many of these files the choices from 0 on leave at a moment; none where a choice leaves another.
+fn count_reached(
+    alloc: Global,
+    host: &MemoryHost,
+    moment: u64,
+    files: &[Vec<u8>],
+) -> Result<usize, Memory> {
+    let mut reached = vec![in alloc; false; files.len()]?;
+    for choice in 0..1500 {
+        if !host.keeps_calls() || moment >= host.moments() {
+            return Ok(0);
+        }
+        let left = host.pick_outcome(moment, choice)?;
+        let bytes = left.file("disk").unwrap_or(b"none");
+        match files.iter().position(|file| file.as_slice() == bytes) {
+            Some(at) if at < reached.len() => reached[at] = true,
+            _ => return Ok(0),
         }
     }
-    assert_eq!(rt; seen, [true; 4]);
+    Ok(reached.iter().filter(|hit| **hit).count())
+}
+
+#[test]
+fn a_crash_leaves_each_mixture(rt: HostRuntime) {
+    let alloc = rt.alloc();
+    let mut host = MemoryHost::new(alloc, true).expect(&rt, "memory");
+    assert_eq!(rt; write_by_turns(&mut host), Ok(()));
+    let mixed = "aa ab ac ba bb bc \
+        aa\0 ab\0 ac\0 ba\0 bb\0 bc\0 aac abc acc bac bbc bcc \
+        aa\0\0 ab\0\0 ac\0\0 ba\0\0 bb\0\0 bc\0\0 aacc abcc accc bacc bbcc bccc";
+    let due = [
+        (1, "", 1),
+        (4, "aa", 1),
+        (5, "aa ab ba bb", 4),
+        (6, "aa ab ba bb", 4),
+        (7, mixed, 30),
+        (8, mixed, 30),
+        (9, "bccc", 1),
+    ];
+    for (moment, words, count) in due {
+        let files = all_spelled(alloc, words).expect(&rt, "memory");
+        let reached = count_reached(alloc, &host, moment, &files).expect(&rt, "memory");
+        assert_eq!(rt; reached, count, "at {moment}");
+    }
+    assert_eq!(rt; host.moments(), 10);
 }
 
 // Writes to a file within the room that was reserved, and syncs it.

@@ -4,6 +4,8 @@
 #[cfg(test)]
 mod creations;
 #[cfg(test)]
+mod devices;
+#[cfg(test)]
 mod image;
 #[cfg(test)]
 mod infos;

@@ -2,27 +2,33 @@ use Rattle.std.proofs.Common.{◌≡◌, ◌<◌, ◌≤◌, false, length, get_
 use Rattle.std.specs.Prelude.{string_bytes, vec_capacity}
 use Rattle.std.proofs.lemmas.List.{length-map}
 use Rattle.disk_memory.specs.declared.files.File.{File}
-use Rattle.disk_memory.specs.Held.{Held}
+use Rattle.disk_model.specs.World.{Writes, HasWritten}
+use Rattle.disk_memory.specs.Steps.{with_bytes, failed_write}
+use Rattle.disk_memory.specs.Held.{Held, world_of}
 use Rattle.disk_memory.specs.Room.{Room}
-use Rattle.disk_memory.specs.Host.{held, room}
-use Rattle.disk_memory.proofs.Answered.{unwritten_by, writes_by, written_by}
+use Rattle.disk_memory.specs.Host.{held, told_by, room}
+use Rattle.disk_memory.proofs.Calls.{stepped, unwritten, writes, has_written}
 use Rattle.disk_memory.proofs.host.MemoryHostDepot.write_at.Goals as goal
 
 pub returns-then-begins_failing-clause-call : goal.returns-then-begins_failing-clause-call
 returns-then-begins_failing-clause-call c =
-    unwritten_by (held c.args.self.now) (held c.begins_failing.new.self) (held c.fail_write.new.self) c.args.file.0 c.begins_failing.ensures.held c.args.at c.args.bytes.now c.fail_write.ensures.held
+    stepped (λ (w : Held). Writes c.args.file.0 c.args.at c.args.bytes.now (told_by c.args.self.now) (world_of w)) (failed_write c.args.file.0) (held c.args.self.now) (held c.begins_failing.new.self) (held c.fail_write.new.self) c.begins_failing.ensures.held c.fail_write.ensures.held
+    (unwritten c.args.file.0 c.args.at c.args.bytes.now (held c.args.self.now))
 
 pub returns-in-Ok-clause-call : goal.returns-in-Ok-clause-call
 returns-in-Ok-clause-call c =
-    writes_by (held c.args.self.now) (held c.begins_failing.new.self) (held c.overwrite.new.self) c.args.file.0 c.begins_failing.ensures.held c.args.at c.args.bytes.now c.args.self.now.kept c.requires.given c.in-Ok.ensures.ok
+    stepped (λ (w : Held). Writes c.args.file.0 c.args.at c.args.bytes.now (told_by c.args.self.now) (world_of w)) (with_bytes c.args.file.0 c.args.at c.args.bytes.now) (held c.args.self.now) (held c.begins_failing.new.self) (held c.overwrite.new.self) c.begins_failing.ensures.held c.in-Ok.ensures.ok
+    (writes c.args.file.0 (held c.args.self.now) c.args.self.now.kept c.args.at c.args.bytes.now c.requires.given)
 
 pub returns-in-Ok-clause-done : goal.returns-in-Ok-clause-done
 returns-in-Ok-clause-done c =
-    written_by (held c.args.self.now) (held c.begins_failing.new.self) (held c.overwrite.new.self) c.args.file.0 c.begins_failing.ensures.held c.args.at c.args.bytes.now c.args.self.now.kept c.requires.given c.in-Ok.ensures.ok
+    stepped (λ (w : Held). HasWritten c.args.file.0 c.args.at c.args.bytes.now (told_by c.args.self.now) (world_of w)) (with_bytes c.args.file.0 c.args.at c.args.bytes.now) (held c.args.self.now) (held c.begins_failing.new.self) (held c.overwrite.new.self) c.begins_failing.ensures.held c.in-Ok.ensures.ok
+    (has_written c.args.file.0 (held c.args.self.now) c.args.self.now.kept c.args.at c.args.bytes.now c.requires.given)
 
 pub returns-in-Err-clause-call : goal.returns-in-Err-clause-call
 returns-in-Err-clause-call c =
-    unwritten_by (held c.args.self.now) (held c.overwrite.new.self) (held c.fail_write-in-Err.new.self) c.args.file.0 (c.in-Err.ensures.err ∙ c.begins_failing.ensures.held) c.args.at c.args.bytes.now c.fail_write-in-Err.ensures.held
+    stepped (λ (w : Held). Writes c.args.file.0 c.args.at c.args.bytes.now (told_by c.args.self.now) (world_of w)) (failed_write c.args.file.0) (held c.args.self.now) (held c.overwrite.new.self) (held c.fail_write-in-Err.new.self) (c.in-Err.ensures.err ∙ c.begins_failing.ensures.held) c.fail_write-in-Err.ensures.held
+    (unwritten c.args.file.0 c.args.at c.args.bytes.now (held c.args.self.now))
 
 -- within its room the write finds memory
 pub returns-in-Err-clause-sure : goal.returns-in-Err-clause-sure
