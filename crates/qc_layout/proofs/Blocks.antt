@@ -76,11 +76,7 @@ record IsNoKnown (kind : ℕ) : Type 0 where
   pub no_own : (kind == own_kind) ≡ false
 
 four_tests : (a b c d : Bool) → not (a || b || c || d) ≡ true → (c ≡ false) × (d ≡ false)
-four_tests true b c d h = absurd cc
-four_tests false true c d h = absurd cc
-four_tests false false true d h = absurd cc
-four_tests false false false true h = absurd cc
-four_tests false false false false h = (refl, refl)
+four_tests a b c d h = search rules
 
 no_known : (b : List ℕ) → IsBlock b → IsNoKnown (u32_at b 0)
 no_known b is = search rules
@@ -131,8 +127,7 @@ is_block file end from e is kept =
     }
 
 put_front : (t : Bool) (b : List ℕ) (bs : List (List ℕ)) → (t ≡ true → IsBlock b) → AreBlocks bs → AreBlocks (if t then b ∷ bs else bs)
-put_front true b bs is are = (is refl, are)
-put_front false b bs is are = are
+put_front t b bs is are = search rules
 
 pub are_blocks : (file : List ℕ) (end from : ℕ) (es : List Extension) → AreExtensions file end from es → AreBlocks (blocks_of file es)
 are_blocks file end from [] listed = tt
@@ -140,8 +135,7 @@ are_blocks file end from (e ∷ es) listed =
     put_front (is_kept e) (bytes_of file e) (blocks_of file es) (is_block file end from e listed.0) (are_blocks file end (behind e) es listed.1)
 
 join_front : (t : Bool) (b : List ℕ) (bs : List (List ℕ)) (l : List ℕ) → l ≡ joined bs → (if t then b ++ l else l) ≡ joined (if t then b ∷ bs else bs)
-join_front true b bs l is = ap (λ (k : List ℕ). b ++ k) is
-join_front false b bs l is = is
+join_front t b bs l is = search rules
 
 pub kept_joined : (file : List ℕ) (es : List Extension) → kept_bytes file es ≡ joined (blocks_of file es)
 kept_joined file [] = refl

@@ -25,14 +25,6 @@ pub record IsStored (compressed plain aligned none zeros : Bool) (o p : ℕ) : T
   pub not_zeros : zeros ≡ false
   pub offset : o ≡ p
 
-pub told_stored : (a b c d e : Bool) (o p : ℕ) → told a b c d e o ≡ Ok (Stored p) → IsStored a b c d e o p
-told_stored true b c d e o p h = absurd cc
-told_stored false false c d e o p h = absurd cc
-told_stored false true false d e o p h = absurd cc
-told_stored false true true true e o p h = absurd cc
-told_stored false true true false true o p h = absurd cc
-told_stored false true true false false o p h = record { not_compressed = refl; is_plain = refl; is_aligned = refl; some = refl; not_zeros = refl; offset = cc }
-
 pub record IsKept (compressed plain aligned none zeros : Bool) (o p : ℕ) : Type 0 where
   pub not_compressed : compressed ≡ false
   pub is_plain : plain ≡ true
@@ -40,14 +32,6 @@ pub record IsKept (compressed plain aligned none zeros : Bool) (o p : ℕ) : Typ
   pub some : none ≡ false
   pub zeros_set : zeros ≡ true
   pub offset : o ≡ p
-
-told_zero : (a b c d e : Bool) (o p : ℕ) → told a b c d e o ≡ Ok (Zero p) → IsKept a b c d e o p
-told_zero true b c d e o p h = absurd cc
-told_zero false false c d e o p h = absurd cc
-told_zero false true false d e o p h = absurd cc
-told_zero false true true true e o p h = absurd cc
-told_zero false true true false false o p h = absurd cc
-told_zero false true true false true o p h = record { not_compressed = refl; is_plain = refl; is_aligned = refl; some = refl; zeros_set = refl; offset = cc }
 
 -- an aligned offset that an entry can hold
 pub record IsPlace (bits offset : ℕ) : Type 0 where
@@ -64,10 +48,6 @@ stored_place bits word offset h = search rules
 pub zero_place : (bits word offset : ℕ) → l2_of bits word ≡ Ok (Zero offset) → IsPlace bits offset
 unfolding l2_of
 zero_place bits word offset h = search rules
-
--- the tests of a word with this offset, bit 63, and bit 0 or not
-offset_again : (o low : ℕ) → IsOffset o → low < 512 → offset_in (o + low + 2 ^ 63) ≡ o
-offset_again o low is small = let w = is.whole in let h = is.small in omega arith
 
 read_as : (bits o low : ℕ) (zeros : Bool) → IsPlace bits o → low < 2 → (low == 1) ≡ zeros → l2_of bits (o + low + 2 ^ 63) ≡ told false true true false zeros o
 unfolding l2_of

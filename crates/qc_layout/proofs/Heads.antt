@@ -1,4 +1,5 @@
 -- This project's extension and that of bitmaps, in front of others, as they are written.
+use Rattle.std.proofs.Common.{rules}
 use Rattle.std.proofs.Common.{◌≡◌, ◌≢◌, ℕ, ◌+◌, ◌^◌, ◌<◌, ◌≤◌, List, ◌∷◌, ◌++◌, length, Bool, false, Option, Some, None, refl, sym, ap, ◌∙◌, subst, arith, length-append}
 use Rattle.std.specs.Prelude.{not, ◌||◌, nat_lt, ◌==◌}
 use Rattle.std.proofs.lemmas.Bool.{le-ltb, ne_eqb}
@@ -152,34 +153,22 @@ own_says parts.Target file end place (owns.Target bytes) es of small s inside se
 
 -- in front of others: what is found of it, and that nothing else changes
 pub own_found : (place : ℕ) (own : Own) (es : List Extension) → first_of_kind own_kind es ≡ None → first_of_kind own_kind (in_front (own_extension place own) es) ≡ own_extension place own
-own_found place owns.Absent es none = none
-own_found place (owns.Source disk epoch spans_offset spans_length) es none = refl
-own_found place (owns.Target bytes) es none = refl
+own_found place own es none = search rules
 
 pub own_no_bitmaps : (place : ℕ) (own : Own) (es : List Extension) → first_of_kind bitmaps_kind (in_front (own_extension place own) es) ≡ first_of_kind bitmaps_kind es
-own_no_bitmaps place owns.Absent es = refl
-own_no_bitmaps place (owns.Source disk epoch spans_offset spans_length) es = refl
-own_no_bitmaps place (owns.Target bytes) es = refl
+own_no_bitmaps place own es = search rules
 
 pub own_count : (place : ℕ) (own : Own) (es : List Extension) → count_of own_kind es ≡ 0 → count_of own_kind (in_front (own_extension place own) es) ≤ 1
-own_count place owns.Absent es none = omega arith
-own_count place (owns.Source disk epoch spans_offset spans_length) es none = omega arith
-own_count place (owns.Target bytes) es none = omega arith
+own_count place own es none = search rules
 
 pub own_count_bitmaps : (place : ℕ) (own : Own) (es : List Extension) → count_of bitmaps_kind (in_front (own_extension place own) es) ≡ count_of bitmaps_kind es
-own_count_bitmaps place owns.Absent es = refl
-own_count_bitmaps place (owns.Source disk epoch spans_offset spans_length) es = refl
-own_count_bitmaps place (owns.Target bytes) es = refl
+own_count_bitmaps place own es = search rules
 
 pub own_kept : (file : List ℕ) (place : ℕ) (own : Own) (es : List Extension) → kept_bytes file (in_front (own_extension place own) es) ≡ kept_bytes file es
-own_kept file place owns.Absent es = refl
-own_kept file place (owns.Source disk epoch spans_offset spans_length) es = refl
-own_kept file place (owns.Target bytes) es = refl
+own_kept file place own es = search rules
 
 pub own_kept_length : (place : ℕ) (own : Own) (es : List Extension) → kept_length (in_front (own_extension place own) es) ≡ kept_length es
-own_kept_length place owns.Absent es = refl
-own_kept_length place (owns.Source disk epoch spans_offset spans_length) es = refl
-own_kept_length place (owns.Target bytes) es = refl
+own_kept_length place own es = search rules
 
 -- ---- that of bitmaps
 
@@ -227,30 +216,23 @@ bitmaps_say file bits end place (Some dir) es are small s inside listed =
     }
 
 pub bitmaps_found : (place : ℕ) (bitmaps : Option DirPlace) (es : List Extension) → first_of_kind bitmaps_kind es ≡ None → first_of_kind bitmaps_kind (in_front (bitmaps_extension place bitmaps) es) ≡ bitmaps_extension place bitmaps
-bitmaps_found place None es none = none
-bitmaps_found place (Some dir) es none = refl
+bitmaps_found place bitmaps es none = search rules
 
 pub bitmaps_no_own : (place : ℕ) (bitmaps : Option DirPlace) (es : List Extension) → first_of_kind own_kind (in_front (bitmaps_extension place bitmaps) es) ≡ first_of_kind own_kind es
-bitmaps_no_own place None es = refl
-bitmaps_no_own place (Some dir) es = refl
+bitmaps_no_own place bitmaps es = search rules
 
 pub bitmaps_count : (place : ℕ) (bitmaps : Option DirPlace) (es : List Extension) → count_of bitmaps_kind es ≡ 0 → count_of bitmaps_kind (in_front (bitmaps_extension place bitmaps) es) ≤ 1
-bitmaps_count place None es none = omega arith
-bitmaps_count place (Some dir) es none = omega arith
+bitmaps_count place bitmaps es none = search rules
 
 pub bitmaps_count_own : (place : ℕ) (bitmaps : Option DirPlace) (es : List Extension) → count_of own_kind (in_front (bitmaps_extension place bitmaps) es) ≡ count_of own_kind es
-bitmaps_count_own place None es = refl
-bitmaps_count_own place (Some dir) es = refl
+bitmaps_count_own place bitmaps es = search rules
 
 pub bitmaps_kept : (file : List ℕ) (place : ℕ) (bitmaps : Option DirPlace) (es : List Extension) → kept_bytes file (in_front (bitmaps_extension place bitmaps) es) ≡ kept_bytes file es
-bitmaps_kept file place None es = refl
-bitmaps_kept file place (Some dir) es = refl
+bitmaps_kept file place bitmaps es = search rules
 
 pub bitmaps_kept_length : (place : ℕ) (bitmaps : Option DirPlace) (es : List Extension) → kept_length (in_front (bitmaps_extension place bitmaps) es) ≡ kept_length es
-bitmaps_kept_length place None es = refl
-bitmaps_kept_length place (Some dir) es = refl
+bitmaps_kept_length place bitmaps es = search rules
 
 -- they are there where the header has them
 pub bitmaps_there : (place : ℕ) (bitmaps : Option DirPlace) → is_there (bitmaps_extension place bitmaps) ≡ has_bitmaps bitmaps
-bitmaps_there place None = refl
-bitmaps_there place (Some dir) = refl
+bitmaps_there place bitmaps = search rules

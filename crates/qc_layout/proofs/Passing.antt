@@ -17,12 +17,10 @@ use Rattle.qc_layout.specs.Reading.{IsNear}
 
 -- neither of two, where there is none
 pub none_left : (a b : Option HeaderFault) → or_else a b ≡ None → a ≡ None
-none_left None b h = refl
-none_left (Some x) b h = absurd cc
+none_left a b h = search rules
 
 pub none_right : (a b : Option HeaderFault) → or_else a b ≡ None → b ≡ None
-none_right None b h = h
-none_right (Some x) b h = absurd cc
+none_right a b h = search rules
 
 -- a rule that passed
 pub record IsPassed (fails : Bool) (rest : Option HeaderFault) : Type 0 where
@@ -30,8 +28,7 @@ pub record IsPassed (fails : Bool) (rest : Option HeaderFault) : Type 0 where
   pub on : rest ≡ None
 
 pub passed : (fails : Bool) (fault : HeaderFault) (rest : Option HeaderFault) → (if fails then Some fault else rest) ≡ None → IsPassed fails rest
-passed true fault rest h = absurd cc
-passed false fault rest h = record { here = refl; on = h }
+passed fails fault rest h = search rules
 
 -- what the rules of its form say of a header
 pub record Passes (length : ℕ) (h : Fields) : Type 0 where
@@ -42,23 +39,14 @@ pub record Passes (length : ℕ) (h : Fields) : Type 0 where
   pub bits_low : 9 ≤ h.cluster_bits
   pub bits_high : h.cluster_bits ≤ 21
 
-long_enough : (length : ℕ) → nat_lt length 104 ≡ false → 104 ≤ length
-long_enough length h = grind (arith, nat_tests)
-
 pub record IsLength (n : ℕ) : Type 0 where
   pub low : 104 ≤ n
   pub high : n ≤ 504
   pub whole : n % 8 ≡ 0
 
-length_is : (n : ℕ) → (nat_lt n 104 || nat_lt 504 n || not (n % 8 == 0)) ≡ false → IsLength n
-length_is n h = search rules
-
 pub record AreBits (n : ℕ) : Type 0 where
   pub low : 9 ≤ n
   pub high : n ≤ 21
-
-bits_are : (n : ℕ) → not (is_bits n) ≡ false → AreBits n
-bits_are n h = record { low = grind (arith, nat_tests); high = grind (arith, nat_tests) }
 
 -- each rule passed
 abbrev pub AllPass : List Rule → Type 0

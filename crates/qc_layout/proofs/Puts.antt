@@ -49,7 +49,3 @@ drop_least n l = grind (arith, common_steps)
 pub record PutsOn (words rest : List Word) (old : List ℕ) (place : ℕ) (now : List ℕ) (at : ℕ) : Type 0 where
   pub puts : (new : List ℕ) (end : ℕ) → Puts (words_bytes rest) now at new end → Puts (words_bytes words) old place new end
   pub small : AreSmallWords rest → AreSmallWords words
-
-pub puts_next : (words : List Word) (w : Word) (rest : List Word) (old now next : List ℕ) (place at end : ℕ) → PutsOn words (w ∷ rest) old place now at → Puts (word_bytes w) now at next end → IsSmallWord w
-    → PutsOn words rest old place next end
-puts_next words w rest old now next place at end before step small = grind (arith, common_steps)

@@ -24,9 +24,6 @@ use Rattle.qc_layout.specs.Records.{version_in, state_in, kind_in, unit_in, poin
 pub record IsBegun (done start out : List ℕ) : Type 0 where
   pub is : out ≡ done ++ drop (length done) start
 
-pub unbegun : (start : List ℕ) → IsBegun [] start start
-unbegun start = record { is = refl }
-
 pub step : (done start out bytes new : List ℕ) (at : ℕ) → IsBegun done start out → length done ≡ at → new ≡ take at out ++ bytes ++ drop (at + length bytes) out → IsBegun (done ++ bytes) start new
 step done start out bytes new at begun long is = record { is = is ∙ ap (λ (n : ℕ). take n out ++ bytes ++ drop (n + length bytes) out) (sym long) ∙ ap (λ (l : List ℕ). take (length done) l ++ bytes ++ drop (length done + length bytes) l) begun.is ∙ ends }
   where
@@ -124,11 +121,7 @@ abbrev fault_by : (first state kind unit : Bool) → Option RecordFault
 fault_by first state kind unit = if not first then Some RecordVersion else if state then Some RecordState else if kind then Some RecordKind else if not unit then Some RecordUnit else None
 
 fault_unit : (first state kind unit : Bool) → fault_by first state kind unit ≡ None → unit ≡ true
-fault_unit false state kind unit none = cc
-fault_unit true true kind unit none = cc
-fault_unit true false true unit none = cc
-fault_unit true false false false none = cc
-fault_unit true false false true none = refl
+fault_unit first state kind unit none = search rules
 
 abbrev fault_from : ℕ → ℕ → ℕ → Bool → Option RecordFault
 fault_from v n k unit = fault_by (v == 1) (nat_lt 2 n) (nat_lt 3 k || ((n == 2) && (k == 0))) unit
@@ -159,9 +152,7 @@ told sealed blank id b q u =
     else record { state = if blank then Blank else Begun; disk = replicate 16 0; base = Loose; point = record { epoch = 0; serial = 0 }; unit = u }
 
 told_plain : (sealed blank : Bool) (id : List ℕ) (b : Base) (q : Point) (u : ℕ) → length id ≡ 16 → IsPlain (told sealed blank id b q u) × ((told sealed blank id b q u).unit ≡ u)
-told_plain true blank id b q u long = (record { id = long; unused = tt }, refl)
-told_plain false true id b q u long = (record { id = refl; unused = (refl, refl, refl) }, refl)
-told_plain false false id b q u long = (record { id = refl; unused = (refl, refl, refl) }, refl)
+told_plain sealed blank id b q u long = search rules
 
 read_plain : (r : Record) (bytes : List ℕ) → r ≡ record_of bytes → IsPlain r × (r.unit ≡ unit_in bytes)
 unfolding record_of
@@ -218,9 +209,7 @@ begins s b u rest small = starts (state_number s) (kind_number s b) u rest (low_
     low_kind Sealed Loose = omega arith
 
 length_base : (b : Base) → length (base_bytes b) ≡ 16
-length_base Whole = refl
-length_base (Since p) = refl
-length_base Loose = refl
+length_base b = search rules
 
 sealed_said : (bits : ℕ) (id : List ℕ) (b : Base) (q : Point) (u : ℕ) → IsRanged b q u → length id ≡ 16 → (u == 2 ^ bits) ≡ true
     → IsSaid bits (record { state = Sealed; disk = id; base = b; point = q; unit = u }) (head_of Sealed b u ++ (id ++ base_bytes b ++ point_bytes q))

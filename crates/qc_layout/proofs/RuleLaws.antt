@@ -14,12 +14,10 @@ NoneFails [] = Unit {0}
 NoneFails (r ∷ rs) = (r.fails ≡ false) × NoneFails rs
 
 if_none : (b : Bool) (x : HeaderFault) (r : Option HeaderFault) → (if b then Some x else r) ≡ None → (b ≡ false) × (r ≡ None)
-if_none true x r h = absurd cc
-if_none false x r h = (refl, h)
+if_none b x r h = search rules
 
 none_if : (b : Bool) (x : HeaderFault) (r : Option HeaderFault) → b ≡ false → r ≡ None → (if b then Some x else r) ≡ None
-none_if true x r f h = absurd cc
-none_if false x r f h = h
+none_if b x r f h = cc
 
 pub none_fails : (rs : List Rule) → first_of rs ≡ None → NoneFails rs
 none_fails [] h = tt
@@ -30,24 +28,19 @@ no_fault [] h = refl
 no_fault (r ∷ rs) h = none_if r.fails r.fault (first_of rs) h.0 (no_fault rs h.1)
 
 pub none_or : (a b : Option HeaderFault) → or_else a b ≡ None → (a ≡ None) × (b ≡ None)
-none_or None b h = (refl, h)
-none_or (Some a) b h = absurd cc
+none_or a b h = search rules
 
 pub or_none : (a b : Option HeaderFault) → a ≡ None → b ≡ None → or_else a b ≡ None
-or_none None b f h = h
-or_none (Some a) b f h = absurd cc
+or_none a b f h = cc
 
 pub or_false : (a b : Bool) → (a || b) ≡ false → (a ≡ false) × (b ≡ false)
-or_false true b h = absurd cc
-or_false false b h = (refl, h)
+or_false a b h = search rules
 
 pub false_or : (a b : Bool) → a ≡ false → b ≡ false → (a || b) ≡ false
-false_or true b f h = absurd cc
-false_or false b f h = h
+false_or a b f h = cc
 
 pub and_true : (a b : Bool) → (a && b) ≡ true → (a ≡ true) × (b ≡ true)
-and_true true b h = (refl, h)
-and_true false b h = absurd cc
+and_true a b h = search rules
 
 -- what is cited of numbers that pass
 pub record ArePassed (f : Fields) : Type 0 where

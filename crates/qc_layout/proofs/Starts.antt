@@ -140,8 +140,7 @@ IsInIfThere n None = Unit {0}
 IsInIfThere n (Some e) = IsIn n e
 
 within_if : (n : ℕ) (t : Bool) (e : Extension) (o : Option Extension) → IsIn n e → IsInIfThere n o → IsInIfThere n (if t then Some e else o)
-within_if n true e o is on = is
-within_if n false e o is on = on
+within_if n t e o is on = search rules
 
 within_first : (n : ℕ) (file : List ℕ) (end from kind : ℕ) (es : List Extension) → end ≤ n → AreExtensions file end from es → IsInIfThere n (first_of_kind kind es)
 within_first n file end from kind [] small are = tt
@@ -155,8 +154,7 @@ first_in {n} a b kind es alike are = within_first n a (list_end (fields_of a).cl
 -- what the rule of bitmaps reads matters only where the extension has its length
 bad_if : (t : Bool) (pad pad' count count' offset offset' bits : ℕ) → (t ≡ true → (pad ≡ pad') × (count ≡ count') × (offset ≡ offset'))
     → (not t || nat_lt 0 pad || (count == 0) || not (is_place bits offset)) ≡ (not t || nat_lt 0 pad' || (count' == 0) || not (is_place bits offset'))
-bad_if false pad pad' count count' offset offset' bits same = refl
-bad_if true pad pad' count count' offset offset' bits same = let s = same refl in let s0 = s.0 in let s1 = s.1 in let s2 = s.2 in cc
+bad_if t pad pad' count count' offset offset' bits same = search rules
 
 alike_bad : {n : ℕ} (a b : List ℕ) (bits : ℕ) (o : Option Extension) → BeginAlike n a b → IsInIfThere n o → is_bad_bitmaps bits a o ≡ is_bad_bitmaps bits b o
 alike_bad a b bits None alike near = refl
@@ -203,8 +201,7 @@ own_if : (t : Bool) (a b : List ℕ) (place : ℕ)
     → (t ≡ false → reading a place 64 ≡ reading b place 64)
     → (if t then owns.Source (reading a place 16) (u64_at a (place + 16)) (u64_at a (place + 24)) (u64_at a (place + 32)) else owns.Target (reading a place 64))
     ≡ (if t then owns.Source (reading b place 16) (u64_at b (place + 16)) (u64_at b (place + 24)) (u64_at b (place + 32)) else owns.Target (reading b place 64))
-own_if true a b place short long = let s = short refl in let s0 = s.0 in let s1 = s.1 in let s2 = s.2 in let s3 = s.3 in cc
-own_if false a b place short long = ap owns.Target (long refl)
+own_if t a b place short long = search rules
 
 alike_own : {n : ℕ} (part : Part) (a b : List ℕ) (o : Option Extension) → BeginAlike n a b → IsInIfThere n o → is_bad_own part o ≡ false → own_in a o ≡ own_in b o
 alike_own part a b None alike near good = refl

@@ -198,9 +198,7 @@ unfolding number_at reading
 format_end = refl
 
 own_no_backing : (place : ℕ) (own : Own) (es : List Extension) → first_of_kind backing_kind (in_front (own_extension place own) es) ≡ first_of_kind backing_kind es
-own_no_backing place owns.Absent es = refl
-own_no_backing place (owns.Source disk epoch spans_offset spans_length) es = refl
-own_no_backing place (owns.Target bytes) es = refl
+own_no_backing place own es = search rules
 
 -- what such a file tells besides
 pub record TellsBacking (part : Part) (file : List ℕ) (h : Header) (name : List ℕ) : Type 0 where

@@ -1,4 +1,5 @@
 -- A header that was written is read again, by whoever reads a file that begins with its sector.
+use Rattle.std.proofs.Common.{rules}
 use Rattle.std.proofs.Common.{◌≡◌, inl, inr, ℕ, ◌+◌, ◌-◌, ◌^◌, ◌<◌, ◌≤◌, List, [], ◌∷◌, ◌++◌, length, take, drop, replicate, Bool, false, Option, Some, None, refl, sym, ap, ◌∙◌, subst, arith, length-append}
 use Rattle.std.specs.Prelude.{not, ◌&&◌, ◌||◌, nat_lt, ◌==◌, if◌then◌else◌}
 use Rattle.std.proofs.lemmas.Bool.{cases_lt, le-ltb, ltb-false, eqb-true, eqb-false, ne_eqb, not-false}
@@ -181,15 +182,10 @@ writable_spelled part h written w begins =
 -- ---- a header that some file spells can be written
 
 bitmaps_well : (bits : ℕ) (file : List ℕ) (o : Option Extension) → is_bad_bitmaps bits file o ≡ false → AreBitmaps bits (bitmaps_in file o)
-bitmaps_well bits file None well = tt
-bitmaps_well bits file (Some e) well =
-    let a = or_false (not (e.length == 24) || nat_lt 0 (u32_at file (e.place + 4)) || (u32_at file e.place == 0)) (not (is_place bits (u64_at file (e.place + 16)))) well in
-    let b = or_false (not (e.length == 24) || nat_lt 0 (u32_at file (e.place + 4))) (u32_at file e.place == 0) a.0 in
-    (eqb-false _ _ b.1, not-false (is_place bits (u64_at file (e.place + 16))) a.1)
+bitmaps_well bits file o well = search rules
 
 bitmaps_found_there : (file : List ℕ) (o : Option Extension) → is_there o ≡ has_bitmaps (bitmaps_in file o)
-bitmaps_found_there file None = refl
-bitmaps_found_there file (Some e) = refl
+bitmaps_found_there file o = search rules
 
 -- by whether its content has 40 bytes
 abbrev told_own : Bool → List ℕ → Extension → Own
