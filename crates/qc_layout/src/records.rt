@@ -2,7 +2,6 @@
 
 ghost use Rattle.std.specs.Prelude.{◌≡◌, ◌≤◌, ◌<◌, ◌+◌, ◌^◌, ◌++◌, ℕ, List, Ok, Err, Some, None, length, take, drop, not, ◌&&◌, ◌||◌, ◌==◌, nat_lt, MatchResult};
 ghost use Rattle.std.specs.Int.{to_be_bytes, w32, w64};
-ghost use Rattle.disk_model.specs.Files.{reading, u32_at, u64_at};
 ghost use Rattle.qc_layout.specs.Records.{record_fault, record_of, record_bytes, state_in, kind_in, unit_in, base_in, point_in, state_number, kind_number, claim_bytes, base_bytes, point_bytes};
 ghost use Rattle.span_algebra.specs.declared.points.Point.{Point};
 ghost use Rattle.span_algebra.specs.declared.spans.Base.TheVariants.{Since};
