@@ -17,22 +17,6 @@ told compressed plain aligned none zeros o =
     else if plain then (if aligned then Ok (if none then Hole else if zeros then Zero o else Stored o) else Err Misaligned)
     else Err Reserved
 
-pub record IsStored (compressed plain aligned none zeros : Bool) (o p : ℕ) : Type 0 where
-  pub not_compressed : compressed ≡ false
-  pub is_plain : plain ≡ true
-  pub is_aligned : aligned ≡ true
-  pub some : none ≡ false
-  pub not_zeros : zeros ≡ false
-  pub offset : o ≡ p
-
-pub record IsKept (compressed plain aligned none zeros : Bool) (o p : ℕ) : Type 0 where
-  pub not_compressed : compressed ≡ false
-  pub is_plain : plain ≡ true
-  pub is_aligned : aligned ≡ true
-  pub some : none ≡ false
-  pub zeros_set : zeros ≡ true
-  pub offset : o ≡ p
-
 -- an aligned offset that an entry can hold
 pub record IsPlace (bits offset : ℕ) : Type 0 where
   pub is : IsOffset offset

@@ -151,24 +151,17 @@ own_says parts.Target file end place (owns.Target bytes) es of small s inside se
     let long = length-target bytes of in
     target_says parts.Target file end place bytes es of s (omega arith) (subst (λ (k : ℕ). AreExtensions file end (place + k) es) long listed) (two_ok (place + 8 + 64) 512 (omega arith))
 
--- in front of others: what is found of it, and that nothing else changes
-pub own_found : (place : ℕ) (own : Own) (es : List Extension) → first_of_kind own_kind es ≡ None → first_of_kind own_kind (in_front (own_extension place own) es) ≡ own_extension place own
-own_found place own es none = search rules
+-- one kind in front of others: what is found of it, and that nothing else changes
+pub record IsFront (file : List ℕ) (kind other : ℕ) (front : Option Extension) (es : List Extension) : Type 0 where
+  pub found : first_of_kind kind es ≡ None → first_of_kind kind (in_front front es) ≡ front
+  pub no_other : first_of_kind other (in_front front es) ≡ first_of_kind other es
+  pub count : count_of kind es ≡ 0 → count_of kind (in_front front es) ≤ 1
+  pub count_other : count_of other (in_front front es) ≡ count_of other es
+  pub kept : kept_bytes file (in_front front es) ≡ kept_bytes file es
+  pub kept_length : kept_length (in_front front es) ≡ kept_length es
 
-pub own_no_bitmaps : (place : ℕ) (own : Own) (es : List Extension) → first_of_kind bitmaps_kind (in_front (own_extension place own) es) ≡ first_of_kind bitmaps_kind es
-own_no_bitmaps place own es = search rules
-
-pub own_count : (place : ℕ) (own : Own) (es : List Extension) → count_of own_kind es ≡ 0 → count_of own_kind (in_front (own_extension place own) es) ≤ 1
-own_count place own es none = search rules
-
-pub own_count_bitmaps : (place : ℕ) (own : Own) (es : List Extension) → count_of bitmaps_kind (in_front (own_extension place own) es) ≡ count_of bitmaps_kind es
-own_count_bitmaps place own es = search rules
-
-pub own_kept : (file : List ℕ) (place : ℕ) (own : Own) (es : List Extension) → kept_bytes file (in_front (own_extension place own) es) ≡ kept_bytes file es
-own_kept file place own es = search rules
-
-pub own_kept_length : (place : ℕ) (own : Own) (es : List Extension) → kept_length (in_front (own_extension place own) es) ≡ kept_length es
-own_kept_length place own es = search rules
+pub own_front : (file : List ℕ) (place : ℕ) (own : Own) (es : List Extension) → IsFront file own_kind bitmaps_kind (own_extension place own) es
+own_front file place own es = search rules
 
 -- ---- that of bitmaps
 
@@ -215,23 +208,8 @@ bitmaps_say file bits end place (Some dir) es are small s inside listed =
           ∙ ap not are.1;
     }
 
-pub bitmaps_found : (place : ℕ) (bitmaps : Option DirPlace) (es : List Extension) → first_of_kind bitmaps_kind es ≡ None → first_of_kind bitmaps_kind (in_front (bitmaps_extension place bitmaps) es) ≡ bitmaps_extension place bitmaps
-bitmaps_found place bitmaps es none = search rules
-
-pub bitmaps_no_own : (place : ℕ) (bitmaps : Option DirPlace) (es : List Extension) → first_of_kind own_kind (in_front (bitmaps_extension place bitmaps) es) ≡ first_of_kind own_kind es
-bitmaps_no_own place bitmaps es = search rules
-
-pub bitmaps_count : (place : ℕ) (bitmaps : Option DirPlace) (es : List Extension) → count_of bitmaps_kind es ≡ 0 → count_of bitmaps_kind (in_front (bitmaps_extension place bitmaps) es) ≤ 1
-bitmaps_count place bitmaps es none = search rules
-
-pub bitmaps_count_own : (place : ℕ) (bitmaps : Option DirPlace) (es : List Extension) → count_of own_kind (in_front (bitmaps_extension place bitmaps) es) ≡ count_of own_kind es
-bitmaps_count_own place bitmaps es = search rules
-
-pub bitmaps_kept : (file : List ℕ) (place : ℕ) (bitmaps : Option DirPlace) (es : List Extension) → kept_bytes file (in_front (bitmaps_extension place bitmaps) es) ≡ kept_bytes file es
-bitmaps_kept file place bitmaps es = search rules
-
-pub bitmaps_kept_length : (place : ℕ) (bitmaps : Option DirPlace) (es : List Extension) → kept_length (in_front (bitmaps_extension place bitmaps) es) ≡ kept_length es
-bitmaps_kept_length place bitmaps es = search rules
+pub bitmaps_front : (file : List ℕ) (place : ℕ) (bitmaps : Option DirPlace) (es : List Extension) → IsFront file bitmaps_kind own_kind (bitmaps_extension place bitmaps) es
+bitmaps_front file place bitmaps es = search rules
 
 -- they are there where the header has them
 pub bitmaps_there : (place : ℕ) (bitmaps : Option DirPlace) → is_there (bitmaps_extension place bitmaps) ≡ has_bitmaps bitmaps

@@ -17,17 +17,6 @@ pub record IsPlainAt (bits word offset : ℕ) : Type 0 where
 
 -- ---- the first level
 
--- what the tests of a word give
-abbrev told1 : (plain aligned none : Bool) → ℕ → Result (Option ℕ) EntryFault
-told1 plain aligned none o = if plain then (if aligned then Ok (if none then None else Some o) else Err Misaligned) else Err Reserved
-
--- the tests of a word that names an offset
-record IsSome1 (plain aligned none : Bool) (o p : ℕ) : Type 0 where
-  pub is_plain : plain ≡ true
-  pub is_aligned : aligned ≡ true
-  pub some : none ≡ false
-  pub offset : p ≡ o
-
 -- a word that is read as an offset
 pub l1_some : (bits word offset : ℕ) → l1_of bits word ≡ Ok (Some offset) → IsPlainAt bits word offset
 unfolding l1_of

@@ -20,24 +20,6 @@ use Rattle.qc_layout.specs.Records.{version_in, state_in, kind_in, unit_in, poin
 
 -- ---- pieces
 
--- what a buffer is after these bytes were put at its start
-pub record IsBegun (done start out : List ℕ) : Type 0 where
-  pub is : out ≡ done ++ drop (length done) start
-
-pub step : (done start out bytes new : List ℕ) (at : ℕ) → IsBegun done start out → length done ≡ at → new ≡ take at out ++ bytes ++ drop (at + length bytes) out → IsBegun (done ++ bytes) start new
-step done start out bytes new at begun long is = record { is = is ∙ ap (λ (n : ℕ). take n out ++ bytes ++ drop (n + length bytes) out) (sym long) ∙ ap (λ (l : List ℕ). take (length done) l ++ bytes ++ drop (length done + length bytes) l) begun.is ∙ ends }
-  where
-    rest : List ℕ
-    rest = drop (length done) start
-
-    ends : take (length done) (done ++ rest) ++ bytes ++ drop (length done + length bytes) (done ++ rest) ≡ (done ++ bytes) ++ drop (length (done ++ bytes)) start
-    ends =
-        ap (λ (l : List ℕ). l ++ bytes ++ drop (length done + length bytes) (done ++ rest)) (take-append_seam done rest)
-        ∙ ap (λ (l : List ℕ). done ++ bytes ++ l) (drop-append-add done rest (length bytes) ∙ drop-drop (length bytes) (length done) start ∙ ap (λ (n : ℕ). drop n start) (sym (length-append done bytes)))
-
-pub ended : (done start out : List ℕ) → IsBegun done start out → length done ≡ length start → out ≡ done
-ended done start out begun long = grind (arith, common_steps)
-
 -- two pieces
 pub two : (start a b x y : List ℕ) (i : ℕ) → length a ≡ i → length a + length b ≡ length start
     → x ≡ take 0 start ++ a ++ drop (0 + length a) start → y ≡ take i x ++ b ++ drop (i + length b) x → y ≡ a ++ b
@@ -122,9 +104,6 @@ fault_by first state kind unit = if not first then Some RecordVersion else if st
 
 fault_unit : (first state kind unit : Bool) → fault_by first state kind unit ≡ None → unit ≡ true
 fault_unit first state kind unit none = search rules
-
-abbrev fault_from : ℕ → ℕ → ℕ → Bool → Option RecordFault
-fault_from v n k unit = fault_by (v == 1) (nat_lt 2 n) (nat_lt 3 k || ((n == 2) && (k == 0))) unit
 
 fault_none : (bits : ℕ) (whole : List ℕ) (s : State) (b : Base) (u : ℕ) → Starts whole (state_number s) (kind_number s b) u → (u == 2 ^ bits) ≡ true → record_fault bits whole ≡ None
 unfolding record_fault

@@ -2,7 +2,7 @@
 use Rattle.std.proofs.Common.{rules}
 use Rattle.std.proofs.Common.{◌≡◌, inr, ℕ, ◌+◌, ◌≤◌, List, [], ◌∷◌, ◌++◌, length, drop, replicate, Bool, false, None, refl, sym, ap, ◌∙◌, subst, arith, length-append}
 use Rattle.std.specs.Prelude.{codes, not, ◌&&◌, nat_lt}
-use Rattle.std.proofs.lemmas.Bool.{le-ltb}
+use Rattle.std.proofs.lemmas.Bool.{le-ltb, or_from}
 use Rattle.disk_model.specs.Files.{reading, u32_at, number_at}
 use Rattle.disk_model.proofs.Laws.{reading-reading}
 use Rattle.qc_layout.specs.declared.extension.Extension.{Extension}
@@ -18,9 +18,11 @@ use Rattle.qc_layout.specs.Spelling.{be32, IsHeaderOf, AreIn, words_bytes, numbe
 use Rattle.qc_layout.proofs.Standing.{Stands, stands_at, stands_as, stands_left, stands_right, inner_u32}
 use Rattle.qc_layout.proofs.WrittenNumbers.{fields_written, length-words}
 use Rattle.qc_layout.proofs.Words.{no_bitmaps_bytes, header_parts}
-use Rattle.qc_layout.proofs.RuleLaws.{ArePassed, are_passed, passed_in, no_fault, false_or}
+use Rattle.qc_layout.proofs.Passing as passing
+use Rattle.qc_layout.proofs.Passing.{numbers_pass, plain_pass, passed_in, no_fault}
 use Rattle.qc_layout.proofs.Listing.{one_listing}
-use Rattle.qc_layout.proofs.Heads.{in_front, own_short, own_extension, own_says, own_found, own_no_bitmaps, own_count, own_count_bitmaps, own_kept_length}
+use Rattle.qc_layout.proofs.Blocks.{AreOthers}
+use Rattle.qc_layout.proofs.Heads.{in_front, own_short, own_extension, own_says, own_front}
 use Rattle.qc_layout.proofs.Written.{BeginsWith, ArePlaced, are_placed, tail_long, sector_in, compression_at}
 
 abbrev extension_of : ℕ → ℕ → ℕ → Extension
@@ -72,7 +74,7 @@ new_kept h is = ap (λ (n : ℕ). drop n h.kept.items.items) (no_tail h is)
 new_long : (part : Part) (h : Header) → IsNew part h → 104 + length (tail_bytes h) ≡ h.fields.header_length
 new_long part h new =
     let is = new.header_length in
-    tail_long h (are_passed part 512 h.fields new.numbers) (omega arith)
+    tail_long h (numbers_pass part 512 h.fields new.numbers) (omega arith)
 
 no_bitmaps : (part : Part) (h : Header) → IsNew part h → length (bitmaps_bytes h.bitmaps) ≡ 0
 no_bitmaps part h new = ap length (ap bitmaps_bytes new.bitmaps ∙ no_bitmaps_bytes)
@@ -93,14 +95,6 @@ new_fits part h new =
     let short = new.short in
     omega (arith, ap length (header_parts h), own_short part h.own new.own, no_bitmaps part h new, ap length (new_kept h new.header_length))
 
--- Others than bitmaps and this project's own, none of which is kept.
-record AreOthers (es : List Extension) : Type 0 where
-  pub no_bitmaps : first_of_kind bitmaps_kind es ≡ None
-  pub no_own : first_of_kind own_kind es ≡ None
-  pub count_bitmaps : count_of bitmaps_kind es ≡ 0
-  pub count_own : count_of own_kind es ≡ 0
-  pub none_kept : kept_length es ≡ 0
-
 -- where its own bytes end
 abbrev behind_own : Header → ℕ
 behind_own h = 112 + length (own_bytes h.own)
@@ -112,8 +106,8 @@ record StandsBehind (file : List ℕ) (h : Header) : Type 0 where
   pub room : behind_own h + length h.kept.items.items + 8 ≤ 512
 
 module _ (part : Part) (h : Header) (file : List ℕ) (new : IsNew part h) (begins : BeginsWith file h) where
-  passed : ArePassed h.fields
-  passed = are_passed part 512 h.fields new.numbers
+  passed : passing.Passes 512 h.fields
+  passed = numbers_pass part 512 h.fields new.numbers
 
   placed : ArePlaced file h
   placed = are_placed file h (new_long part h new) begins
@@ -132,27 +126,28 @@ module _ (part : Part) (h : Header) (file : List ℕ) (new : IsNew part h) (begi
         room = omega arith;
       }
 
-  told : (more : List Extension) → AreOthers more → AreExtensions file (list_end h.fields.cluster_bits) (behind_own h) more → Tells part file h
-  told more others listed =
-      let is_fields = fields_written file h new.small.numbers placed.numbers (compression_at file h placed.tail) passed.no_compression in
+  told : (more : List Extension) → AreOthers more → kept_length more ≡ 0 → AreExtensions file (list_end h.fields.cluster_bits) (behind_own h) more → Tells part file h
+  told more others unkept listed =
+      let is_fields = fields_written file h new.small.numbers placed.numbers (compression_at file h placed.tail) (plain_pass part 512 h.fields new.numbers) in
       let end = list_end h.fields.cluster_bits in
-      let sector : 512 ≤ end = sector_in h.fields.cluster_bits passed.bits in
+      let sector : 512 ≤ end = sector_in h.fields.cluster_bits passed.bits_low in
       let room = stand_behind.room in
       let is = new.header_length in
       let own = own_says part file end 112 h.own more new.own new.small.own (stands_at is placed.own) (omega arith) (omega arith) listed in
       let all = in_front (own_extension 112 h.own) more in
-      let found_own : first_of_kind own_kind all ≡ own_extension 112 h.own = own_found 112 h.own more others.no_own in
-      let found_bitmaps : first_of_kind bitmaps_kind all ≡ None = own_no_bitmaps 112 h.own more ∙ others.no_bitmaps in
-      let one_bitmaps : count_of bitmaps_kind all ≤ 1 = omega (arith, own_count_bitmaps 112 h.own more, others.count_bitmaps) in
-      let one_own : count_of own_kind all ≤ 1 = own_count 112 h.own more others.count_own in
-      let count : kept_length all ≡ 0 = own_kept_length 112 h.own more ∙ others.none_kept in
+      let g = own_front file 112 h.own more in
+      let found_own : first_of_kind own_kind all ≡ own_extension 112 h.own = g.found others.no_own in
+      let found_bitmaps : first_of_kind bitmaps_kind all ≡ None = g.no_other ∙ others.no_bitmaps in
+      let one_bitmaps : count_of bitmaps_kind all ≤ 1 = omega (arith, g.count_other, others.count_bitmaps) in
+      let one_own : count_of own_kind all ≤ 1 = g.count others.count_own in
+      let count : kept_length all ≡ 0 = g.kept_length ∙ unkept in
       record {
         fields = is_fields;
         numbers = passed_in part 512 (length file) h.fields (omega (arith, begins.long)) new.numbers;
         extensions = all;
         listed = subst (λ (n : ℕ). AreExtensions file end n all) (sym is) own.listed;
         rules = no_fault (extension_rules part file h.fields all) (
-          false_or (nat_lt 1 (count_of bitmaps_kind all)) (nat_lt 1 (count_of own_kind all)) (le-ltb _ _ one_bitmaps) (le-ltb _ _ one_own),
+          or_from (nat_lt 1 (count_of bitmaps_kind all)) (nat_lt 1 (count_of own_kind all)) (le-ltb _ _ one_bitmaps) (le-ltb _ _ one_own),
           (
             le-ltb _ _ (omega arith),
             (
@@ -170,9 +165,9 @@ module _ (part : Part) (h : Header) (file : List ℕ) (new : IsNew part h) (begi
   -- nothing is kept
   pub bare_tells : h.kept.items.items ≡ [] → Tells part file h
   bare_tells none =
-      let sector : 512 ≤ list_end h.fields.cluster_bits = sector_in h.fields.cluster_bits passed.bits in
+      let sector : 512 ≤ list_end h.fields.cluster_bits = sector_in h.fields.cluster_bits passed.bits_low in
       let room = stand_behind.room in
-      told [] (record { no_bitmaps = refl; no_own = refl; count_bitmaps = refl; count_own = refl; none_kept = refl })
+      told [] (record { no_bitmaps = refl; no_own = refl; count_bitmaps = refl; count_own = refl }) refl
       (inr (omega arith, (let end : behind_own h + length h.kept.items.items ≡ behind_own h = omega (arith, ap length none) in ap (u32_at file) (sym end) ∙ stand_behind.zero)))
 
 -- ---- a file under it
@@ -215,7 +210,7 @@ module _ (part : Part) (h : Header) (file name : List ℕ) (new : IsNew part h) 
 
   enough : behind_own h + 24 + length name + 8 ≤ list_end h.fields.cluster_bits
   enough =
-      let sector : 512 ≤ list_end h.fields.cluster_bits = sector_in h.fields.cluster_bits (passed part h file new begins).bits in
+      let sector : 512 ≤ list_end h.fields.cluster_bits = sector_in h.fields.cluster_bits (passed part h file new begins).bits_low in
       omega (arith, (stand_behind part h file new begins).room, ap length keeps, length-append format_words name)
 
   is_backing : IsExtension file (list_end h.fields.cluster_bits) (behind_own h) (extension_of backing_kind (behind_own h + 8) 5)
@@ -236,7 +231,7 @@ module _ (part : Part) (h : Header) (file name : List ℕ) (new : IsNew part h) 
       (is_backing, inr (omega (arith, enough), ap (u32_at file) next ∙ sym (inner_u32 words 16 (omega arith)) ∙ format_end))
 
   all_told : Tells part file h
-  all_told = told part h file new begins (extension_of backing_kind (behind_own h + 8) 5 ∷ []) (record { no_bitmaps = refl; no_own = refl; count_bitmaps = refl; count_own = refl; none_kept = refl }) listed
+  all_told = told part h file new begins (extension_of backing_kind (behind_own h + 8) 5 ∷ []) (record { no_bitmaps = refl; no_own = refl; count_bitmaps = refl; count_own = refl }) refl listed
 
   pub backed_tells : TellsBacking part file h name
   unfolding all_told told

@@ -2,7 +2,7 @@
 use Rattle.std.proofs.Common.{rules}
 use Rattle.std.proofs.Common.{◌≡◌, inl, inr, ℕ, ◌+◌, ◌-◌, ◌^◌, ◌<◌, ◌≤◌, List, [], ◌∷◌, ◌++◌, length, take, drop, replicate, Bool, false, Option, Some, None, refl, sym, ap, ◌∙◌, subst, arith, length-append}
 use Rattle.std.specs.Prelude.{not, ◌&&◌, ◌||◌, nat_lt, ◌==◌, if◌then◌else◌}
-use Rattle.std.proofs.lemmas.Bool.{cases_lt, le-ltb, ltb-false, eqb-true, eqb-false, ne_eqb, not-false}
+use Rattle.std.proofs.lemmas.Bool.{cases_lt, le-ltb, ltb-false, eqb-true, eqb-false, ne_eqb, not-false, or_from, or_parts}
 use Rattle.std.proofs.lemmas.List.{length-take, length-replicate, take-append-drop}
 use Rattle.std.proofs.Math.Nat.{pow-le-pow_right}
 use Rattle.std.proofs.Math.Seq.{drop-append_seam}
@@ -22,9 +22,9 @@ use Rattle.qc_layout.specs.Spelling.{Spells, words_bytes, number_words, tail_byt
 use Rattle.qc_layout.proofs.Standing.{Stands, stands_at, stands_as, stands_left, stands_right, inner_u32, zeros_u32}
 use Rattle.qc_layout.proofs.WrittenNumbers.{fields_written, length-words}
 use Rattle.qc_layout.proofs.Words.{no_tail_bytes, tail_words, header_parts}
-use Rattle.qc_layout.proofs.RuleLaws.{ArePassed, are_passed, passed_in, none_fails, no_fault, or_false, false_or}
-use Rattle.qc_layout.proofs.Blocks.{as_extensions, blocks_listed, blocks_bytes, blocks_length, blocks_no_bitmaps, blocks_no_own, blocks_count_bitmaps, blocks_count_own, blocks_of, are_blocks, kept_joined, kept_long}
-use Rattle.qc_layout.proofs.Heads.{in_front, own_extension, own_says, own_found, own_no_bitmaps, own_count, own_count_bitmaps, own_kept, own_kept_length, bitmaps_extension, bitmaps_say, bitmaps_found, bitmaps_no_own, bitmaps_count, bitmaps_count_own, bitmaps_kept, bitmaps_kept_length, bitmaps_there}
+use Rattle.qc_layout.proofs.Passing.{Passes, numbers_pass, plain_pass, all_pass, no_fault, passed_in}
+use Rattle.qc_layout.proofs.Blocks.{as_extensions, blocks_listed, blocks_bytes, blocks_length, blocks_others, blocks_of, are_blocks, kept_joined, kept_long}
+use Rattle.qc_layout.proofs.Heads.{in_front, own_extension, own_says, own_front, bitmaps_extension, bitmaps_say, bitmaps_front, bitmaps_there}
 
 -- the file begins with the header's sector
 pub record BeginsWith (file : List ℕ) (h : Header) : Type 0 where
@@ -35,12 +35,12 @@ pub record BeginsWith (file : List ℕ) (h : Header) : Type 0 where
 -- ---- where the parts stand
 
 -- a header's bytes up to its end
-pub tail_long : (h : Header) → ArePassed h.fields → tail_length h ≤ length h.kept.items.items → 104 + length (tail_bytes h) ≡ h.fields.header_length
-tail_long h passed inside = elim (cases_lt 104 h.fields.header_length) [
-  | inl long ↦ (let whole = passed.eights in
-      let from = passed.from_104 in
+pub tail_long : {n : ℕ} (h : Header) → Passes n h.fields → tail_length h ≤ length h.kept.items.items → 104 + length (tail_bytes h) ≡ h.fields.header_length
+tail_long {n} h passed inside = elim (cases_lt 104 h.fields.header_length) [
+  | inl long ↦ (let whole = passed.length_whole in
+      let from = passed.length_low in
       omega (arith, ap length (tail_words h long), length-append (h.fields.compression_type ∷ 0 ∷ 0 ∷ 0 ∷ 0 ∷ 0 ∷ 0 ∷ 0 ∷ []) (take (tail_length h) h.kept.items.items), length-take (tail_length h) h.kept.items.items))
-  | inr short ↦ (let from = passed.from_104 in omega (arith, ap length (no_tail_bytes h short)))
+  | inr short ↦ (let from = passed.length_low in omega (arith, ap length (no_tail_bytes h short)))
 ]
 
 pub record ArePlaced (file : List ℕ) (h : Header) : Type 0 where
@@ -101,9 +101,9 @@ compression_at file h s long =
     ∙ ap (λ (l : List ℕ). byte l 0) (s.read ∙ sym words)
 
 -- what a longer header has behind it
-tail_at : (file : List ℕ) (h : Header) → ArePassed h.fields → tail_length h ≤ length h.kept.items.items → Stands file 104 (tail_bytes h) →
+tail_at : {n : ℕ} (file : List ℕ) (h : Header) → Passes n h.fields → tail_length h ≤ length h.kept.items.items → Stands file 104 (tail_bytes h) →
     tail_of file h.fields.header_length ≡ take (tail_length h) h.kept.items.items
-tail_at file h passed inside s = elim (cases_lt 104 h.fields.header_length) [
+tail_at {n} file h passed inside s = elim (cases_lt 104 h.fields.header_length) [
   | inl long ↦ (
       let first = h.fields.compression_type ∷ 0 ∷ 0 ∷ 0 ∷ 0 ∷ 0 ∷ 0 ∷ 0 ∷ [] in
       let rest = take (tail_length h) h.kept.items.items in
@@ -123,12 +123,12 @@ tail_at file h passed inside s = elim (cases_lt 104 h.fields.header_length) [
 
 pub writable_spelled : (part : Part) (h : Header) (written : List ℕ) → IsWritable part h → BeginsWith written h → Spells part written h
 writable_spelled part h written w begins =
-    let passed = are_passed part 512 h.fields w.numbers in
+    let passed = numbers_pass part 512 h.fields w.numbers in
     let placed = are_placed written h (tail_long h passed w.tail) begins in
     let room = placed.room in
-    let is = fields_written written h w.small.numbers placed.numbers (compression_at written h placed.tail) passed.no_compression in
+    let is = fields_written written h w.small.numbers placed.numbers (compression_at written h placed.tail) (plain_pass part 512 h.fields w.numbers) in
     let end = list_end h.fields.cluster_bits in
-    let sector : 512 ≤ end = sector_in h.fields.cluster_bits passed.bits in
+    let sector : 512 ≤ end = sector_in h.fields.cluster_bits passed.bits_low in
     let p1 = h.fields.header_length in
     let p2 = h.fields.header_length + length (own_bytes h.own) in
     let p3 = h.fields.header_length + length (own_bytes h.own) + length (bitmaps_bytes h.bitmaps) in
@@ -141,17 +141,15 @@ writable_spelled part h written w begins =
     let more = in_front (bitmaps_extension p2 h.bitmaps) kept in
     let own = own_says part written end p1 h.own more w.own w.small.own placed.own (omega arith) (omega arith) bitmaps.listed in
     let all = in_front (own_extension p1 h.own) more in
-    let found_own : first_of_kind own_kind all ≡ own_extension p1 h.own =
-    own_found p1 h.own more (bitmaps_no_own p2 h.bitmaps kept ∙ blocks_no_own p3 w.blocks w.unknown) in
-    let found_bitmaps : first_of_kind bitmaps_kind all ≡ bitmaps_extension p2 h.bitmaps =
-    own_no_bitmaps p1 h.own more ∙ bitmaps_found p2 h.bitmaps kept (blocks_no_bitmaps p3 w.blocks w.unknown) in
-    let one_bitmaps : count_of bitmaps_kind all ≤ 1 =
-    omega (arith, own_count_bitmaps p1 h.own more, bitmaps_count p2 h.bitmaps kept (blocks_count_bitmaps p3 w.blocks w.unknown)) in
-    let one_own : count_of own_kind all ≤ 1 = own_count p1 h.own more (bitmaps_count_own p2 h.bitmaps kept ∙ blocks_count_own p3 w.blocks w.unknown) in
-    let bytes : kept_bytes written all ≡ kept_part h =
-    own_kept written p1 h.own more ∙ bitmaps_kept written p2 h.bitmaps kept ∙ blocks_bytes written p3 w.blocks w.unknown stand ∙ sym w.kept in
-    let count : kept_length all ≡ length (kept_part h) =
-    own_kept_length p1 h.own more ∙ bitmaps_kept_length p2 h.bitmaps kept ∙ blocks_length p3 w.blocks w.unknown ∙ sym long in
+    let others = blocks_others p3 w.blocks w.unknown in
+    let f = bitmaps_front written p2 h.bitmaps kept in
+    let g = own_front written p1 h.own more in
+    let found_own : first_of_kind own_kind all ≡ own_extension p1 h.own = g.found (f.no_other ∙ others.no_own) in
+    let found_bitmaps : first_of_kind bitmaps_kind all ≡ bitmaps_extension p2 h.bitmaps = g.no_other ∙ f.found others.no_bitmaps in
+    let one_bitmaps : count_of bitmaps_kind all ≤ 1 = omega (arith, g.count_other, f.count others.count_bitmaps) in
+    let one_own : count_of own_kind all ≤ 1 = g.count (f.count_other ∙ others.count_own) in
+    let bytes : kept_bytes written all ≡ kept_part h = g.kept ∙ f.kept ∙ blocks_bytes written p3 w.blocks w.unknown stand ∙ sym w.kept in
+    let count : kept_length all ≡ length (kept_part h) = g.kept_length ∙ f.kept_length ∙ blocks_length p3 w.blocks w.unknown ∙ sym long in
     let little = w.room in
     record {
       numbers = subst (λ (f : Fields). number_fault part (length written) f ≡ None) (sym is) (passed_in part 512 (length written) h.fields (omega (arith, begins.long)) w.numbers);
@@ -159,7 +157,7 @@ writable_spelled part h written w begins =
       extensions = all;
       listed = subst (λ (f : Fields). AreExtensions written (list_end f.cluster_bits) f.header_length all) (sym is) own.listed;
       rules = subst (λ (f : Fields). first_of (extension_rules part written f all) ≡ None) (sym is) (no_fault (extension_rules part written h.fields all) (
-        false_or (nat_lt 1 (count_of bitmaps_kind all)) (nat_lt 1 (count_of own_kind all)) (le-ltb _ _ one_bitmaps) (le-ltb _ _ one_own),
+        or_from (nat_lt 1 (count_of bitmaps_kind all)) (nat_lt 1 (count_of own_kind all)) (le-ltb _ _ one_bitmaps) (le-ltb _ _ one_own),
         (
           le-ltb _ _ (omega arith),
           (
@@ -199,7 +197,7 @@ own_well parts.Source file (Some e) well =
 own_well parts.Foreign file (Some e) well =
     subst (λ (t : Bool). IsOwnOf parts.Foreign (told_own t file e)) (sym (not-false (e.length == 40) well)) (length-reading file e.place 16)
 own_well parts.Target file (Some e) well =
-    let a = or_false (not (e.length == 64)) (nat_lt 512 (e.place + e.length)) well in
+    let a = or_parts (not (e.length == 64)) (nat_lt 512 (e.place + e.length)) well in
     let long : e.length ≡ 64 = eqb-true _ _ (not-false (e.length == 64) a.0) in
     subst (λ (t : Bool). IsOwnOf parts.Target (told_own t file e)) (sym (ne_eqb e.length 40 (λ z. omega arith))) (length-reading file e.place 64)
 
@@ -207,9 +205,9 @@ pub spelled_writable : (part : Part) (h : Header) (file : List ℕ) → IsSmall 
 spelled_writable part h file small s =
     let f = fields_of file in
     let es = s.extensions in
-    let passed = are_passed part (length file) f s.numbers in
+    let passed = numbers_pass part (length file) f s.numbers in
     let same : f ≡ h.fields = sym s.fields in
-    let rules = none_fails (extension_rules part file f es) s.rules in
+    let rules = all_pass (extension_rules part file f es) s.rules in
     let count : length (tail_of file h.fields.header_length) ≡ tail_length h = length-reading file 112 (h.fields.header_length - 112) in
     let part_is : kept_part h ≡ kept_bytes file es =
     ap (λ (l : List ℕ). drop (tail_length h) l) s.kept
