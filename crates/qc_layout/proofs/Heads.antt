@@ -71,22 +71,22 @@ pub length-target : (bytes : List ℕ) → length bytes ≡ 64 → length (own_b
 length-target bytes long =
     ap length (target_are bytes) ∙ omega (arith, length-append {A = ℕ}, length-words)
 
+-- which form it has
+source_of : (part : Part) (disk : List ℕ) (epoch spans_offset spans_length place : ℕ) → IsOwnOf part (owns.Source disk epoch spans_offset spans_length) → (length disk ≡ 16) × (is_bad_own part (Some (extension_at own_kind place 40)) ≡ false)
+source_of part disk epoch spans_offset spans_length place of = search rules
+
+target_long : (part : Part) (bytes : List ℕ) → IsOwnOf part (owns.Target bytes) → length bytes ≡ 64
+target_long part bytes of = search rules
+
+target_of : (part : Part) (bytes : List ℕ) (place : ℕ) → IsOwnOf part (owns.Target bytes) → place + 72 ≤ 512 → is_bad_own part (Some (extension_at own_kind place 64)) ≡ false
+target_of parts.Target bytes place of sector = le-ltb 512 (place + 8 + 64) (omega arith)
+target_of parts.Source bytes place of sector = absurd of
+target_of parts.Foreign bytes place of sector = absurd of
+
 pub own_short : (part : Part) (own : Own) → IsOwnOf part own → length (own_bytes own) ≤ 72
 own_short part owns.Absent of = omega (arith, ap length no_own_bytes)
-own_short parts.Source (owns.Source disk epoch spans_offset spans_length) of = omega (arith, length-source disk epoch spans_offset spans_length of)
-own_short parts.Foreign (owns.Source disk epoch spans_offset spans_length) of = omega (arith, length-source disk epoch spans_offset spans_length of)
-own_short parts.Target (owns.Source disk epoch spans_offset spans_length) of = absurd of
-own_short parts.Source (owns.Target bytes) of = absurd of
-own_short parts.Foreign (owns.Target bytes) of = absurd of
-own_short parts.Target (owns.Target bytes) of = omega (arith, length-target bytes of)
-
--- it is what stands there
-pub source_stands : {file : List ℕ} {place : ℕ} (end : ℕ) (disk : List ℕ) (epoch spans_offset spans_length : ℕ) → Stands file place (own_bytes (owns.Source disk epoch spans_offset spans_length)) → place + 48 ≤ end
-    → IsExtension file end place (extension_at own_kind place 40)
-source_stands end disk epoch spans_offset spans_length s inside = head_stands end own_kind 40 _ (stands_as (source_are disk epoch spans_offset spans_length) s) (omega arith) (λ z. omega arith) (omega arith) (omega arith)
-
-pub target_stands : {file : List ℕ} {place : ℕ} (end : ℕ) (bytes : List ℕ) → Stands file place (own_bytes (owns.Target bytes)) → place + 72 ≤ end → IsExtension file end place (extension_at own_kind place 64)
-target_stands end bytes s inside = head_stands end own_kind 64 _ (stands_as (target_are bytes) s) (omega arith) (λ z. omega arith) (omega arith) (omega arith)
+own_short part (owns.Source disk epoch spans_offset spans_length) of = omega (arith, length-source disk epoch spans_offset spans_length (source_of part disk epoch spans_offset spans_length 0 of).0)
+own_short part (owns.Target bytes) of = omega (arith, length-target bytes (target_long part bytes of))
 
 -- what its extension says again
 pub record SaysOwn (part : Part) (file : List ℕ) (end place : ℕ) (own : Own) (es : List Extension) : Type 0 where
@@ -94,62 +94,38 @@ pub record SaysOwn (part : Part) (file : List ℕ) (end place : ℕ) (own : Own)
   pub says : own ≡ own_in file (own_extension place own)
   pub well : is_bad_own part (own_extension place own) ≡ false
 
-two_ok : (a b : ℕ) → a ≤ b → nat_lt b a ≡ false
-two_ok a b h = le-ltb b a h
-
-source_says : (part : Part) (file : List ℕ) (end place : ℕ) (disk : List ℕ) (epoch spans_offset spans_length : ℕ) (es : List Extension) →
-    length disk ≡ 16 → IsSmallOwn (owns.Source disk epoch spans_offset spans_length) → Stands file place (own_bytes (owns.Source disk epoch spans_offset spans_length)) →
-    place + 48 ≤ end → AreExtensions file end (place + 48) es → is_bad_own part (own_extension place (owns.Source disk epoch spans_offset spans_length)) ≡ false →
-    SaysOwn part file end place (owns.Source disk epoch spans_offset spans_length) es
-source_says part file end place disk epoch spans_offset spans_length es long small s inside listed well =
-    let numbers = words_bytes (source_words epoch spans_offset spans_length) in
-    let content = content_stands own_kind 40 _ (stands_as (source_are disk epoch spans_offset spans_length) s) in
-    let to : place + 8 + length disk ≡ place + 8 + 16 = omega arith in
-    let there = words_there file (place + 8) 16 (source_words epoch spans_offset spans_length) small (stands_at to (stands_right disk numbers content)) in
-    let is_disk : disk ≡ reading file (place + 8) 16 = sym (stands_left disk numbers content).read ∙ ap (reading file (place + 8)) long in
-    let next : place + 48 ≡ place + 8 + 40 = omega arith in
-    record {
-      listed = (source_stands end disk epoch spans_offset spans_length s inside, subst (λ (k : ℕ). AreExtensions file end k es) next listed);
-      says = cc;
-      well = well;
-    }
-
-target_says : (part : Part) (file : List ℕ) (end place : ℕ) (bytes : List ℕ) (es : List Extension) →
-    length bytes ≡ 64 → Stands file place (own_bytes (owns.Target bytes)) →
-    place + 72 ≤ end → AreExtensions file end (place + 72) es → is_bad_own part (own_extension place (owns.Target bytes)) ≡ false →
-    SaysOwn part file end place (owns.Target bytes) es
-target_says part file end place bytes es long s inside listed well =
-    let content = content_stands own_kind 64 _ (stands_as (target_are bytes) s) in
-    let is_record : bytes ≡ reading file (place + 8) 64 = sym content.read ∙ ap (reading file (place + 8)) long in
-    let next : place + 72 ≡ place + 8 + 64 = omega arith in
-    record { listed = (target_stands end bytes s inside, subst (λ (k : ℕ). AreExtensions file end k es) next listed); says = ap owns.Target is_record; well = well }
-
-absent_says : (part : Part) (file : List ℕ) (end place : ℕ) (es : List Extension) → AreExtensions file end (place + length (own_bytes owns.Absent)) es → SaysOwn part file end place owns.Absent es
-absent_says part file end place es listed =
-    let none = ap length no_own_bytes in
-    let same : place + length (own_bytes owns.Absent) ≡ place = omega arith in
-    record { listed = subst (λ (k : ℕ). AreExtensions file end k es) same listed; says = refl; well = absent_well part }
-  where
-    absent_well : (part : Part) → is_bad_own part None ≡ false
-    absent_well parts.Source = refl
-    absent_well parts.Target = refl
-    absent_well parts.Foreign = refl
-
 pub own_says : (part : Part) (file : List ℕ) (end place : ℕ) (own : Own) (es : List Extension) → IsOwnOf part own → IsSmallOwn own → Stands file place (own_bytes own) →
     place + length (own_bytes own) ≤ end → place + length (own_bytes own) ≤ 512 → AreExtensions file end (place + length (own_bytes own)) es → SaysOwn part file end place own es
-own_says part file end place owns.Absent es of small s inside sector listed = absent_says part file end place es listed
-own_says parts.Source file end place (owns.Source disk epoch spans_offset spans_length) es of small s inside sector listed =
-    let long = length-source disk epoch spans_offset spans_length of in
-    source_says parts.Source file end place disk epoch spans_offset spans_length es of small s (omega arith) (subst (λ (k : ℕ). AreExtensions file end (place + k) es) long listed) refl
-own_says parts.Foreign file end place (owns.Source disk epoch spans_offset spans_length) es of small s inside sector listed =
-    let long = length-source disk epoch spans_offset spans_length of in
-    source_says parts.Foreign file end place disk epoch spans_offset spans_length es of small s (omega arith) (subst (λ (k : ℕ). AreExtensions file end (place + k) es) long listed) refl
-own_says parts.Target file end place (owns.Source disk epoch spans_offset spans_length) es of small s inside sector listed = absurd of
-own_says parts.Source file end place (owns.Target bytes) es of small s inside sector listed = absurd of
-own_says parts.Foreign file end place (owns.Target bytes) es of small s inside sector listed = absurd of
-own_says parts.Target file end place (owns.Target bytes) es of small s inside sector listed =
-    let long = length-target bytes of in
-    target_says parts.Target file end place bytes es of s (omega arith) (subst (λ (k : ℕ). AreExtensions file end (place + k) es) long listed) (two_ok (place + 8 + 64) 512 (omega arith))
+own_says part file end place owns.Absent es of small s inside sector listed =
+    let none = ap length no_own_bytes in
+    let same : place + length (own_bytes owns.Absent) ≡ place = omega arith in
+    record { listed = subst (λ (k : ℕ). AreExtensions file end k es) same listed; says = refl; well = search rules }
+own_says part file end place (owns.Source disk epoch spans_offset spans_length) es of small s inside sector listed =
+    let is = source_of part disk epoch spans_offset spans_length place of in
+    let size = length-source disk epoch spans_offset spans_length is.0 in
+    let long = is.0 in
+    let numbers = words_bytes (source_words epoch spans_offset spans_length) in
+    let whole = stands_as (source_are disk epoch spans_offset spans_length) s in
+    let content = content_stands own_kind 40 _ whole in
+    let there = words_there file (place + 8) 16 (source_words epoch spans_offset spans_length) small (stands_at (omega (arith, long)) (stands_right disk numbers content)) in
+    let is_disk : disk ≡ reading file (place + 8) 16 = sym (stands_left disk numbers content).read ∙ ap (reading file (place + 8)) long in
+    let next : place + length (own_bytes (owns.Source disk epoch spans_offset spans_length)) ≡ place + 8 + 40 = omega (arith, size) in
+    record {
+      listed = (head_stands end own_kind 40 _ whole (omega arith) (λ z. omega arith) (omega arith) (omega (arith, size)), subst (λ (k : ℕ). AreExtensions file end k es) next listed);
+      says = cc;
+      well = is.1;
+    }
+own_says part file end place (owns.Target bytes) es of small s inside sector listed =
+    let whole = stands_as (target_are bytes) s in
+    let long = target_long part bytes of in
+    let size = length-target bytes long in
+    let content = content_stands own_kind 64 _ whole in
+    let next : place + length (own_bytes (owns.Target bytes)) ≡ place + 8 + 64 = omega (arith, size) in
+    record {
+      listed = (head_stands end own_kind 64 _ whole (omega arith) (λ z. omega arith) (omega arith) (omega (arith, size)), subst (λ (k : ℕ). AreExtensions file end k es) next listed);
+      says = ap owns.Target (sym content.read ∙ ap (reading file (place + 8)) long);
+      well = target_of part bytes place of (omega (arith, size));
+    }
 
 -- one kind in front of others: what is found of it, and that nothing else changes
 pub record IsFront (file : List ℕ) (kind other : ℕ) (front : Option Extension) (es : List Extension) : Type 0 where
