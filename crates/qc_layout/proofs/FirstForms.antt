@@ -68,27 +68,21 @@ first_l1 file = sym (number-reading w64 file 0 104 40 (omega arith))
 
 -- the first level names no table, or one
 l1_at_none : (word : ℕ) → IsPlainEntry word → offset_in word ≡ 0 → l1_of 12 word ≡ Ok None
-l1_at_none word plain none =
-    l1_plain 12 word plain (ap (λ (k : ℕ). k % 4096) none)
-    ∙ ap (λ (t : Bool). let r : Result (Option ℕ) EntryFault = Ok (if t then None else Some (offset_in word)) in r) (ap (λ (k : ℕ). k == 0) none)
+unfolding l1_of
+l1_at_none word plain none = search rules
 
 l1_at_some : (word : ℕ) → IsPlainEntry word → offset_in word ≢ 0 → offset_in word % 4096 ≡ 0 → l1_of 12 word ≡ Ok (Some (offset_in word))
-l1_at_some word plain some aligned =
-    l1_plain 12 word plain aligned
-    ∙ ap (λ (t : Bool). let r : Result (Option ℕ) EntryFault = Ok (if t then None else Some (offset_in word)) in r) (ne_eqb (offset_in word) 0 some)
+unfolding l1_of
+l1_at_some word plain some aligned = search rules
 
 -- the second level names no cluster, or one
 l2_at_none : (word : ℕ) → IsPlainEntry word → offset_in word ≡ 0 → l2_of 12 word ≡ Ok Hole
-l2_at_none word plain none = ⊎_elim
-    (λ (hole : l2_of 12 word ≡ Ok Hole). hole)
-    (λ (stored : l2_of 12 word ≡ Ok (Stored (offset_in word))). let some = (stored_place 12 word (offset_in word) stored).is.some in absurd (omega arith))
-    (l2_plain 12 word plain (ap (λ (k : ℕ). k % 4096) none))
+unfolding l2_of
+l2_at_none word plain none = search rules
 
 l2_at_some : (word : ℕ) → IsPlainEntry word → offset_in word ≢ 0 → offset_in word % 4096 ≡ 0 → l2_of 12 word ≡ Ok (Stored (offset_in word))
-l2_at_some word plain some aligned = ⊎_elim
-    (λ (hole : l2_of 12 word ≡ Ok Hole). absurd (some (l2_hole 12 word hole)))
-    (λ (stored : l2_of 12 word ≡ Ok (Stored (offset_in word))). stored)
-    (l2_plain 12 word plain aligned)
+unfolding l2_of
+l2_at_some word plain some aligned = search rules
 
 -- ---- what the entries say of a cluster
 

@@ -7,7 +7,6 @@ use Rattle.qc_layout.specs.declared.entry.EntryFault.TheVariants.{Reserved, Misa
 use Rattle.qc_layout.specs.declared.entry.L2Entry.TheVariants.{Hole, Stored}
 use Rattle.qc_layout.specs.Entries.{offset_in, l1_of, l2_of}
 use Rattle.qc_layout.specs.FirstForm.{IsPlainEntry}
-use Rattle.qc_layout.proofs.EntryLaws.{told}
 
 -- a plain entry whose offset is aligned, and that offset
 pub record IsPlainAt (bits word offset : ℕ) : Type 0 where
@@ -44,17 +43,7 @@ pub l2_hole : (bits word : ℕ) → l2_of bits word ≡ Ok Hole → offset_in wo
 unfolding l2_of
 l2_hole bits word h = search rules
 
--- the tests of a plain word
-plain_told : (bits word : ℕ) → IsPlainEntry word → offset_in word % 2 ^ bits ≡ 0 → l2_of bits word ≡ told false true true (offset_in word == 0) false (offset_in word)
-unfolding l2_of
-plain_told bits word plain aligned = search rules
-
--- they leave two answers
-hole_or_stored : (d : Bool) (o : ℕ) → (told false true true d false o ≡ Ok Hole) ⊎ (told false true true d false o ≡ Ok (Stored o))
-hole_or_stored d o = search rules
-
 -- what is read of a plain word
 pub l2_plain : (bits word : ℕ) → IsPlainEntry word → offset_in word % 2 ^ bits ≡ 0 → (l2_of bits word ≡ Ok Hole) ⊎ (l2_of bits word ≡ Ok (Stored (offset_in word)))
-l2_plain bits word plain aligned =
-    let t = plain_told bits word plain aligned in
-    ⊎_elim (λ hole. inl (t ∙ hole)) (λ stored. inr (t ∙ stored)) (hole_or_stored (offset_in word == 0) (offset_in word))
+unfolding l2_of
+l2_plain bits word plain aligned = search rules

@@ -1,4 +1,5 @@
 -- A header that was written is read again, by whoever reads a file that begins with its sector.
+use Rattle.qc_layout.proofs.Kept.{reading_none}
 use Rattle.std.proofs.Common.{rules}
 use Rattle.std.proofs.Common.{◌≡◌, inl, inr, ℕ, ◌+◌, ◌-◌, ◌^◌, ◌<◌, ◌≤◌, List, [], ◌∷◌, ◌++◌, length, take, drop, replicate, Bool, false, Option, Some, None, refl, sym, ap, ◌∙◌, subst, arith, length-append}
 use Rattle.std.specs.Prelude.{not, ◌&&◌, ◌||◌, nat_lt, ◌==◌, if◌then◌else◌}
@@ -112,12 +113,8 @@ tail_at {n} file h passed inside s = elim (cases_lt 104 h.fields.header_length) 
       ap (reading file 112) (sym count) ∙ behind.read)
   | inr short ↦ (
       let none : h.fields.header_length - 112 ≡ 0 = omega arith in
-      ap (reading file 112) none ∙ no_bytes (reading file 112 0) (length-reading file 112 0) ∙ ap (λ (k : ℕ). take k h.kept.items.items) (sym none))
+      ap (reading file 112) none ∙ reading_none file 112 ∙ ap (λ (k : ℕ). take k h.kept.items.items) (sym none))
 ]
-  where
-    no_bytes : (l : List ℕ) → length l ≡ 0 → l ≡ []
-    no_bytes [] none = refl
-    no_bytes (b ∷ bs) none = absurd (omega arith)
 
 -- ---- what is written spells the header
 
@@ -185,21 +182,12 @@ bitmaps_well bits file o well = search rules
 bitmaps_found_there : (file : List ℕ) (o : Option Extension) → is_there o ≡ has_bitmaps (bitmaps_in file o)
 bitmaps_found_there file o = search rules
 
--- by whether its content has 40 bytes
-abbrev told_own : Bool → List ℕ → Extension → Own
-told_own t file e =
-    if t then owns.Source (reading file e.place 16) (u64_at file (e.place + 16)) (u64_at file (e.place + 24)) (u64_at file (e.place + 32)) else owns.Target (reading file e.place 64)
-
 own_well : (part : Part) (file : List ℕ) (o : Option Extension) → is_bad_own part o ≡ false → IsOwnOf part (own_in file o)
 own_well part file None well = tt
-own_well parts.Source file (Some e) well =
-    subst (λ (t : Bool). IsOwnOf parts.Source (told_own t file e)) (sym (not-false (e.length == 40) well)) (length-reading file e.place 16)
-own_well parts.Foreign file (Some e) well =
-    subst (λ (t : Bool). IsOwnOf parts.Foreign (told_own t file e)) (sym (not-false (e.length == 40) well)) (length-reading file e.place 16)
-own_well parts.Target file (Some e) well =
-    let a = or_parts (not (e.length == 64)) (nat_lt 512 (e.place + e.length)) well in
-    let long : e.length ≡ 64 = eqb-true _ _ (not-false (e.length == 64) a.0) in
-    subst (λ (t : Bool). IsOwnOf parts.Target (told_own t file e)) (sym (ne_eqb e.length 40 (λ z. omega arith))) (length-reading file e.place 64)
+own_well part file (Some e) well =
+    let short = length-reading file e.place 16 in
+    let long = length-reading file e.place 64 in
+    search rules
 
 pub spelled_writable : (part : Part) (h : Header) (file : List ℕ) → IsSmall h → Spells part file h → IsWritable part h
 spelled_writable part h file small s =
