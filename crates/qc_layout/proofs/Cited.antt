@@ -2,10 +2,6 @@
 
 -- ---- a header is read in one way
 
--- one list of extensions at most stands in a place
-pub use Rattle.qc_layout.proofs.Listing.{one_listing}
--- and in a file
-pub use Rattle.qc_layout.proofs.HeaderLaws.{one_in}
 -- a file is refused for one fault at most
 pub use Rattle.qc_layout.proofs.HeaderLaws.{one_fault}
 -- a file that spells a header is not refused
@@ -16,8 +12,6 @@ pub use Rattle.qc_layout.proofs.HeaderLaws.{one_header}
 
 -- files that begin alike do so either way round
 pub use Rattle.qc_layout.proofs.Starts.{alike_back}
--- they have the same numbers
-pub use Rattle.qc_layout.proofs.Starts.{alike_fields}
 -- a header of the one is a header of the other
 pub use Rattle.qc_layout.proofs.Starts.{header_from_start}
 -- and a fault of the one is a fault of the other
@@ -30,14 +24,6 @@ pub use Rattle.qc_layout.proofs.Starts.{read_as_from_start}
 pub use Rattle.qc_layout.proofs.Starts.{begins}
 -- the first 24 say how many that are
 pub use Rattle.qc_layout.proofs.Starts.{start_same}
--- ---- where the rules pass
-
--- what the rules of a header's numbers leave: its length and its cluster bits
-pub use Rattle.qc_layout.proofs.Passing.{Passes, numbers_pass}
--- each rule of a list passed
-pub use Rattle.qc_layout.proofs.Passing.{AllPass, all_pass}
--- extensions stand in the first 65536 bytes
-pub use Rattle.qc_layout.proofs.Passing.{listing_near}
 -- ---- the form of image that is replayed
 
 -- a file of this form that stands for a disk does so in this form

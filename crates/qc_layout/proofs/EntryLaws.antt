@@ -10,13 +10,6 @@ use Rattle.qc_layout.specs.declared.entry.L2Entry.{L2Entry}
 use Rattle.qc_layout.specs.declared.entry.L2Entry.TheVariants.{Hole, Zero, Stored, Compressed}
 use Rattle.qc_layout.specs.Entries.{offset_in, l2_of, IsOffset}
 
--- what the tests of an entry give
-abbrev pub told : (compressed plain aligned none zeros : Bool) → ℕ → Result L2Entry EntryFault
-told compressed plain aligned none zeros o =
-    if compressed then Ok Compressed
-    else if plain then (if aligned then Ok (if none then Hole else if zeros then Zero o else Stored o) else Err Misaligned)
-    else Err Reserved
-
 -- an aligned offset that an entry can hold
 pub record IsPlace (bits offset : ℕ) : Type 0 where
   pub is : IsOffset offset
@@ -33,9 +26,14 @@ pub zero_place : (bits word offset : ℕ) → l2_of bits word ≡ Ok (Zero offse
 unfolding l2_of
 zero_place bits word offset h = search rules
 
-read_as : (bits o low : ℕ) (zeros : Bool) → IsPlace bits o → low < 2 → (low == 1) ≡ zeros → l2_of bits (o + low + 2 ^ 63) ≡ told false true true false zeros o
+-- what is read of a word with this offset and bit 63, and with bit 0 or not
+read_stored : (bits o : ℕ) → IsPlace bits o → l2_of bits (o + 2 ^ 63) ≡ Ok (Stored o)
 unfolding l2_of
-read_as bits o low zeros place small is = search rules
+read_stored bits o place = search rules
+
+read_zero : (bits o : ℕ) → IsPlace bits o → l2_of bits (o + 1 + 2 ^ 63) ≡ Ok (Zero o)
+unfolding l2_of
+read_zero bits o place = search rules
 
 -- the written word as a sum
 pub stored_sum : (o : ℕ) → o < 2 ^ 56 → bit_or o (2 ^ 63) ≡ o + 2 ^ 63
@@ -48,10 +46,7 @@ zero_sum o whole small =
     ap (λ (k : ℕ). bit_or k (2 ^ 63)) low ∙ omega (arith, or_shifted_r 1 63 (o + 1) (omega arith))
 
 pub stored_reads : (bits o : ℕ) → IsPlace bits o → l2_of bits (bit_or o (2 ^ 63)) ≡ Ok (Stored o)
-stored_reads bits o place =
-    let sum : o + 0 + 2 ^ 63 ≡ bit_or o (2 ^ 63) = omega (arith, stored_sum o place.is.small) in
-    subst (λ (n : ℕ). l2_of bits n ≡ Ok (Stored o)) sum (read_as bits o 0 false place (omega arith) refl)
+stored_reads bits o place = ap (l2_of bits) (stored_sum o place.is.small) ∙ read_stored bits o place
 
 pub zero_reads : (bits o : ℕ) → IsPlace bits o → l2_of bits (bit_or (bit_or o 1) (2 ^ 63)) ≡ Ok (Zero o)
-zero_reads bits o place =
-    subst (λ (n : ℕ). l2_of bits n ≡ Ok (Zero o)) (sym (zero_sum o place.is.whole place.is.small)) (read_as bits o 1 true place (omega arith) refl)
+zero_reads bits o place = ap (l2_of bits) (zero_sum o place.is.whole place.is.small) ∙ read_zero bits o place

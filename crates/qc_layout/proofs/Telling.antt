@@ -14,7 +14,7 @@ use Rattle.qc_layout.specs.declared.header.Header.{Header}
 use Rattle.qc_layout.specs.Header.{fields_of, number_fault, first_of, has_bit}
 use Rattle.qc_layout.specs.Extensions.{list_end, IsExtension, AreExtensions, extension_rules, first_of_kind, count_of, kept_length, own_in, backing_kind, bitmaps_kind, own_kind, is_bad_bitmaps, is_bad_own, is_there}
 use Rattle.qc_layout.specs.Disks.{Passes, HasExtension}
-use Rattle.qc_layout.specs.Spelling.{be32, IsHeaderOf, AreIn, words_bytes, number_words, tail_bytes, tail_length, kept_part, own_bytes, bitmaps_bytes, Fits, IsSmall, IsOwnOf}
+use Rattle.qc_layout.specs.Spelling.{be32, IsHeaderOf, AreIn, words_bytes, head_words, word32, number_words, tail_bytes, tail_length, kept_part, own_bytes, bitmaps_bytes, Fits, IsSmall, IsOwnOf}
 use Rattle.qc_layout.proofs.Standing.{Stands, stands_at, stands_as, stands_left, stands_right, inner_u32}
 use Rattle.qc_layout.proofs.WrittenNumbers.{fields_written, length-words}
 use Rattle.qc_layout.proofs.Words.{no_bitmaps_bytes, header_parts}
@@ -22,11 +22,8 @@ use Rattle.qc_layout.proofs.Passing as passing
 use Rattle.qc_layout.proofs.Passing.{numbers_pass, plain_pass, passed_in, no_fault}
 use Rattle.qc_layout.proofs.Listing.{one_listing}
 use Rattle.qc_layout.proofs.Blocks.{AreOthers}
-use Rattle.qc_layout.proofs.Heads.{in_front, own_short, own_extension, own_says, own_front}
+use Rattle.qc_layout.proofs.Heads.{in_front, extension_at, head_stands, own_short, own_extension, own_says, own_front}
 use Rattle.qc_layout.proofs.Written.{BeginsWith, ArePlaced, are_placed, tail_long, sector_in, compression_at}
-
-abbrev extension_of : ℕ → ℕ → ℕ → Extension
-extension_of kind place length = record { kind = kind; place = place; length = length }
 
 -- ---- what a file tells
 
@@ -176,13 +173,9 @@ module _ (part : Part) (h : Header) (file : List ℕ) (new : IsNew part h) (begi
 abbrev pub format_words : List ℕ
 format_words = be32 backing_kind ++ be32 5 ++ codes "qcow2" ++ replicate 11 0
 
-format_kind : u32_at format_words 0 ≡ backing_kind
-unfolding number_at reading
-format_kind = refl
-
-format_length : u32_at format_words 4 ≡ 5
-unfolding number_at reading
-format_length = refl
+format_head : words_bytes (head_words backing_kind 5) ++ (codes "qcow2" ++ replicate 11 0) ≡ format_words
+unfolding word32
+format_head = refl
 
 format_content : reading format_words 8 5 ≡ codes "qcow2"
 unfolding reading
@@ -213,25 +206,16 @@ module _ (part : Part) (h : Header) (file name : List ℕ) (new : IsNew part h) 
       let sector : 512 ≤ list_end h.fields.cluster_bits = sector_in h.fields.cluster_bits (passed part h file new begins).bits_low in
       omega (arith, (stand_behind part h file new begins).room, ap length keeps, length-append format_words name)
 
-  is_backing : IsExtension file (list_end h.fields.cluster_bits) (behind_own h) (extension_of backing_kind (behind_own h + 8) 5)
-  is_backing =
-      let here : behind_own h + 0 ≡ behind_own h = omega arith in
-      record {
-        inside = omega (arith, enough);
-        kind = sym format_kind ∙ inner_u32 words 0 (omega arith) ∙ ap (u32_at file) here;
-        some = λ z. omega arith;
-        place = refl;
-        length = sym format_length ∙ inner_u32 words 4 (omega arith);
-        whole = omega (arith, enough);
-      }
+  is_backing : IsExtension file (list_end h.fields.cluster_bits) (behind_own h) (extension_at backing_kind (behind_own h) 5)
+  is_backing = head_stands (list_end h.fields.cluster_bits) backing_kind 5 _ (stands_as (sym format_head) words) (omega arith) (λ z. omega arith) (omega arith) (omega (arith, enough))
 
-  listed : AreExtensions file (list_end h.fields.cluster_bits) (behind_own h) (extension_of backing_kind (behind_own h + 8) 5 ∷ [])
+  listed : AreExtensions file (list_end h.fields.cluster_bits) (behind_own h) (extension_at backing_kind (behind_own h) 5 ∷ [])
   listed =
       let next : behind_own h + 8 + 8 ≡ behind_own h + 16 = omega arith in
       (is_backing, inr (omega (arith, enough), ap (u32_at file) next ∙ sym (inner_u32 words 16 (omega arith)) ∙ format_end))
 
   all_told : Tells part file h
-  all_told = told part h file new begins (extension_of backing_kind (behind_own h + 8) 5 ∷ []) (record { no_bitmaps = refl; no_own = refl; count_bitmaps = refl; count_own = refl }) refl listed
+  all_told = told part h file new begins (extension_at backing_kind (behind_own h) 5 ∷ []) (record { no_bitmaps = refl; no_own = refl; count_bitmaps = refl; count_own = refl }) refl listed
 
   pub backed_tells : TellsBacking part file h name
   unfolding all_told told
@@ -239,8 +223,8 @@ module _ (part : Part) (h : Header) (file name : List ℕ) (new : IsNew part h) 
     tells = all_told;
     name_stands = (stands_right format_words name stand).read;
     format = λ es are. (
-      extension_of backing_kind (behind_own h + 8) 5,
-      ap (first_of_kind backing_kind) (told_list part file h all_told es are) ∙ own_no_backing 112 h.own (extension_of backing_kind (behind_own h + 8) 5 ∷ []),
+      extension_at backing_kind (behind_own h) 5,
+      ap (first_of_kind backing_kind) (told_list part file h all_told es are) ∙ own_no_backing 112 h.own (extension_at backing_kind (behind_own h) 5 ∷ []),
       sym (reading-reading file (behind_own h) 24 8 5 (omega arith)) ∙ ap (λ (l : List ℕ). reading l 8 5) words.read ∙ format_content,
     );
   }
