@@ -86,25 +86,12 @@ l2_at_some word plain some aligned = search rules
 
 -- ---- what the entries say of a cluster
 
--- the same, with the numbers of a header by themselves
-abbrev entry_with : List ℕ → ℕ → ℕ → ℕ → Result L2Entry EntryFault
-entry_with file bits l1 n = entry_under file (l1_of bits (u64_at file (l1 + 8 * (n / words_in bits)))) (n % words_in bits)
-
-entry_numbers : (file : List ℕ) (n : ℕ) → entry_at file n ≡ entry_with file (bits_of file) (fields_of file).l1_table_offset n
-unfolding entry_at
-entry_numbers file n = refl
-
 -- the one entry of the first level counts 512 clusters
-entry_512 : (file : List ℕ) (l1 n : ℕ) → n < 512 → entry_with file 12 l1 n ≡ entry_under file (l1_of 12 (u64_at file l1)) n
-unfolding words_in
-entry_512 file l1 n few = search rules
-
 first_entry : (file : List ℕ) (n : ℕ) → IsFirstForm file → n < clusters_of file → entry_at file n ≡ entry_under file (l1_of 12 (u64_at file (l1_offset file))) n
+unfolding entry_at words_in
 first_entry file n form below =
-    entry_numbers file n
-    ∙ ap (λ (b : ℕ). entry_with file b (fields_of file).l1_table_offset n) (first_bits file form)
-    ∙ ap (λ (o : ℕ). entry_with file 12 o n) (first_l1 file)
-    ∙ entry_512 file (l1_offset file) n (clusters_below file n form below)
+    let few = clusters_below file n form below in
+    rw (first_bits file form, first_l1 file) (search rules)
 
 -- without a table a cluster is a hole
 entry_no_table : (file : List ℕ) (n : ℕ) → IsFirstForm file → n < clusters_of file → table_offset file ≡ 0 → entry_at file n ≡ Ok Hole

@@ -2,6 +2,7 @@
 use Rattle.std.proofs.Common.{rules}
 use Rattle.std.proofs.Common.{◌≡◌, ◌≢◌, ℕ, ◌+◌, ◌^◌, ◌<◌, ◌≤◌, List, ◌∷◌, ◌++◌, length, Bool, false, Option, Some, None, refl, sym, ap, ◌∙◌, subst, arith, length-append}
 use Rattle.std.specs.Prelude.{not, ◌||◌, nat_lt, ◌==◌}
+use Rattle.std.proofs.lemmas.Bool.Decides.{nat_tests}
 use Rattle.std.proofs.lemmas.Bool.{le-ltb, ne_eqb}
 use Rattle.disk_model.specs.Files.{reading, u32_at, u64_at}
 use Rattle.qc_layout.specs.declared.extension.Extension.{Extension}
@@ -176,12 +177,7 @@ bitmaps_say file bits end place (Some dir) es are small s inside listed =
     record {
       listed = (head_stands end bitmaps_kind 24 _ whole (omega arith) (λ z. omega arith) (omega arith) (omega arith), subst (λ (k : ℕ). AreExtensions file end k es) next listed);
       says = sym (rw (is_offset, is_size, is_count) refl);
-      well =
-          ap (λ (k : ℕ). nat_lt 0 k || (u32_at file (place + 8) == 0) || not (is_place bits (u64_at file (place + 8 + 16)))) is_zero
-          ∙ ap (λ (k : ℕ). (k == 0) || not (is_place bits (u64_at file (place + 8 + 16)))) is_count
-          ∙ ap (λ (t : Bool). t || not (is_place bits (u64_at file (place + 8 + 16)))) (ne_eqb dir.count 0 are.0)
-          ∙ ap (λ (k : ℕ). not (is_place bits k)) is_offset
-          ∙ ap not are.1;
+      well = let some = are.0 in let good = are.1 in grind (arith, nat_tests);
     }
 
 pub bitmaps_front : (file : List ℕ) (place : ℕ) (bitmaps : Option DirPlace) (es : List Extension) → IsFront file bitmaps_kind own_kind (bitmaps_extension place bitmaps) es

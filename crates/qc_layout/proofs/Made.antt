@@ -17,23 +17,6 @@ use Rattle.qc_layout.proofs.Passing.{listing_near}
 pub listed_near : (file : List ℕ) (end from bits : ℕ) (es passed : List Extension) → end ≡ list_end bits → AreExtensions file end from es → passed ≡ es → All IsNear passed
 listed_near file end from bits es passed is are same = All-same IsNear passed es same (listing_near file end from es (omega (arith, is)) are)
 
--- what was made of a file's numbers and extensions
-made_of : (part : Part) (file : List ℕ) (es : List Extension) (h : Header) → number_fault part (length file) (fields_of file) ≡ None → AreIn file es
-    → first_of (extension_rules part file (fields_of file) es) ≡ None → IsMade file (fields_of file) es h → IsHeaderOf part file h
-made_of part file es h numbers listed rules made = record {
-  spells = record {
-    numbers = numbers;
-    fields = made.fields;
-    extensions = es;
-    listed = listed;
-    rules = rules;
-    kept = made.kept ∙ ap (λ (f : Fields). tail_of file f.header_length ++ kept_bytes file es) (sym made.fields);
-    bitmaps = made.bitmaps;
-    own = made.own;
-  };
-  own_at = made.own_at;
-}
-
 -- what a run read and found
 pub record HasRead (part : Part) (file : List ℕ) (f : Fields) (end from : ℕ) (es passed : List Extension) : Type 0 where
   pub read : f ≡ fields_of file
@@ -50,8 +33,20 @@ read_listed part file f end from es passed has = search rules
 pub read_made : (part : Part) (file : List ℕ) (f : Fields) (end from : ℕ) (es passed : List Extension) (h : Header) → HasRead part file f end from es passed
     → first_of (extension_rules part file f passed) ≡ None → IsMade file f passed h → IsHeaderOf part file h
 read_made part file f end from es passed h has rules made =
-    made_of part file passed h
-    (subst (λ (g : Fields). number_fault part (length file) g ≡ None) has.read has.numbers)
-    (read_listed part file f end from es passed has)
-    (subst (λ (g : Fields). first_of (extension_rules part file g passed) ≡ None) has.read rules)
-    (subst (λ (g : Fields). IsMade file g passed h) has.read made)
+    let read = has.read in
+    let fields = made.fields in
+    let kept = made.kept in
+    let numbers = has.numbers in
+    record {
+      spells = record {
+        numbers = cc;
+        fields = cc;
+        extensions = passed;
+        listed = read_listed part file f end from es passed has;
+        rules = cc;
+        kept = cc;
+        bitmaps = made.bitmaps;
+        own = made.own;
+      };
+      own_at = made.own_at;
+    }

@@ -134,16 +134,10 @@ begins : (s : State) (b : Base) (u : ℕ) (rest : List ℕ) → u < 2 ^ 32 → S
 begins s b u rest small = starts (state_number s) (kind_number s b) u rest (low_state s) (low_kind s b) small
   where
     low_state : (t : State) → state_number t < 2 ^ 32
-    low_state Blank = omega arith
-    low_state Begun = omega arith
-    low_state Sealed = omega arith
+    low_state t = search rules
 
     low_kind : (t : State) (d : Base) → kind_number t d < 2 ^ 32
-    low_kind Blank d = omega arith
-    low_kind Begun d = omega arith
-    low_kind Sealed Whole = omega arith
-    low_kind Sealed (Since p) = omega arith
-    low_kind Sealed Loose = omega arith
+    low_kind t d = search rules
 
 length_base : (b : Base) → length (base_bytes b) ≡ 16
 length_base b = search rules
