@@ -33,17 +33,16 @@ block_stands file end place b is s inside =
       whole = omega arith;
     }
 
-behind_block : (place : ℕ) (b : List ℕ) → IsBlock b → place + length b ≡ behind (as_extension place b)
-behind_block place b is = let long = is.long in omega arith
-
 pub blocks_listed : (file : List ℕ) (end place : ℕ) (bs : List (List ℕ)) → AreBlocks bs → Stands file place (joined bs) → place + length (joined bs) ≤ end →
     IsEnd file end (place + length (joined bs)) → AreExtensions file end place (as_extensions place bs)
 blocks_listed file end place [] are s inside last = let here : place + 0 ≡ place = omega arith in subst (IsEnd file end) here last
 blocks_listed file end place (b ∷ bs) are s inside last =
     let long = length-append b (joined bs) in
-    let same : place + length (b ++ joined bs) ≡ place + length b + length (joined bs) = omega arith in (
+    let same : place + length (b ++ joined bs) ≡ place + length b + length (joined bs) = omega arith in
+    let whole = are.0.long in
+    let next : place + length b ≡ behind (as_extension place b) = omega arith in (
       block_stands file end place b are.0 (stands_left b (joined bs) s) (omega arith),
-      subst (λ (k : ℕ). AreExtensions file end k (as_extensions (place + length b) bs)) (behind_block place b are.0)
+      subst (λ (k : ℕ). AreExtensions file end k (as_extensions (place + length b) bs)) next
           (blocks_listed file end (place + length b) bs are.1 (stands_right b (joined bs) s) (omega arith) (subst (IsEnd file end) same last)),
     )
 

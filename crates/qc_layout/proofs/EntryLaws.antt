@@ -15,9 +15,6 @@ pub record IsPlace (bits offset : ℕ) : Type 0 where
   pub is : IsOffset offset
   pub aligned : offset % 2 ^ bits ≡ 0
 
-place_in : (bits word : ℕ) → (offset_in word % 2 ^ bits == 0) ≡ true → (offset_in word == 0) ≡ false → IsPlace bits (offset_in word)
-place_in bits word whole some = search rules
-
 pub stored_place : (bits word offset : ℕ) → l2_of bits word ≡ Ok (Stored offset) → IsPlace bits offset
 unfolding l2_of
 stored_place bits word offset h = search rules

@@ -126,14 +126,10 @@ entry_stored file n form below stored =
 
 -- ---- a byte of the disk, as the entries give it
 
--- which cluster it is in
-in_disk : (file : List ℕ) (x : ℕ) → x < disk_size file → x / 4096 < clusters_of file
-in_disk file x inside = omega arith
-
 -- what the entries give is the byte
 pub read_byte : (file : List ℕ) (x b : ℕ) → IsFirstForm file → x < disk_size file → ReadsAs file (entry_at file (x / 4096)) (x % 4096) b → b ≡ disk_byte file x
 read_byte file x b form inside reads =
-    let below = in_disk file x inside in
+    let below : x / 4096 < clusters_of file = omega arith in
     elim (cases_eq (host_of file (x / 4096)) 0) [
       | inl none ↦
           let zero : b ≡ 0 = subst (λ (e : Result L2Entry EntryFault). ReadsAs file e (x % 4096) b) (entry_hole file (x / 4096) form below none) reads in
@@ -146,7 +142,7 @@ read_byte file x b form inside reads =
 -- and the byte is what they give
 pub reads_byte : (file : List ℕ) (x b : ℕ) → IsFirstForm file → x < disk_size file → b ≡ disk_byte file x → ReadsAs file (entry_at file (x / 4096)) (x % 4096) b
 reads_byte file x b form inside is =
-    let below = in_disk file x inside in
+    let below : x / 4096 < clusters_of file = omega arith in
     elim (cases_eq (host_of file (x / 4096)) 0) [
       | inl none ↦ subst (λ (e : Result L2Entry EntryFault). ReadsAs file e (x % 4096) b) (sym (entry_hole file (x / 4096) form below none)) (is ∙ hole_byte file x none)
       | inr some ↦ subst (λ (e : Result L2Entry EntryFault). ReadsAs file e (x % 4096) b) (sym (entry_stored file (x / 4096) form below some)) (is ∙ stored_byte file x some)

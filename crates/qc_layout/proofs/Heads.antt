@@ -16,7 +16,6 @@ use Rattle.qc_layout.specs.Extensions.{IsExtension, AreExtensions, kept_bytes, k
 use Rattle.qc_layout.specs.Spelling.{words_bytes, head_words, source_words, bitmaps_words, own_bytes, bitmaps_bytes, IsSmallOwn, AreSmallBitmaps, AreBitmaps, IsOwnOf, has_bitmaps}
 use Rattle.qc_layout.proofs.Standing.{Stands, stands_at, stands_as, stands_left, stands_right}
 use Rattle.qc_layout.proofs.WrittenNumbers.{words_there, length-words}
-use Rattle.qc_layout.proofs.Words.{no_own_bytes, no_bitmaps_bytes}
 
 -- one in front, if it is there
 abbrev pub in_front : Option Extension → List Extension → List Extension
@@ -54,23 +53,13 @@ own_extension place owns.Absent = None
 own_extension place (owns.Source disk epoch spans_offset spans_length) = Some (extension_at own_kind place 40)
 own_extension place (owns.Target bytes) = Some (extension_at own_kind place 64)
 
-source_are : (disk : List ℕ) (epoch spans_offset spans_length : ℕ) →
-    own_bytes (owns.Source disk epoch spans_offset spans_length) ≡ words_bytes (head_words own_kind 40) ++ (disk ++ words_bytes (source_words epoch spans_offset spans_length))
-unfolding own_bytes
-source_are disk epoch spans_offset spans_length = refl
-
-target_are : (bytes : List ℕ) → own_bytes (owns.Target bytes) ≡ words_bytes (head_words own_kind 64) ++ bytes
-unfolding own_bytes
-target_are bytes = refl
-
 pub length-source : (disk : List ℕ) (epoch spans_offset spans_length : ℕ) → length disk ≡ 16 → length (own_bytes (owns.Source disk epoch spans_offset spans_length)) ≡ 48
-length-source disk epoch spans_offset spans_length long =
-    ap length (source_are disk epoch spans_offset spans_length)
-    ∙ omega (arith, length-append {A = ℕ}, length-words)
+unfolding own_bytes
+length-source disk epoch spans_offset spans_length long = omega (arith, length-append {A = ℕ}, length-words)
 
 pub length-target : (bytes : List ℕ) → length bytes ≡ 64 → length (own_bytes (owns.Target bytes)) ≡ 72
-length-target bytes long =
-    ap length (target_are bytes) ∙ omega (arith, length-append {A = ℕ}, length-words)
+unfolding own_bytes
+length-target bytes long = omega (arith, length-append {A = ℕ}, length-words)
 
 -- which form it has
 source_of : (part : Part) (disk : List ℕ) (epoch spans_offset spans_length place : ℕ) → IsOwnOf part (owns.Source disk epoch spans_offset spans_length) → (length disk ≡ 16) × (is_bad_own part (Some (extension_at own_kind place 40)) ≡ false)
@@ -85,7 +74,8 @@ target_of parts.Source bytes place of sector = absurd of
 target_of parts.Foreign bytes place of sector = absurd of
 
 pub own_short : (part : Part) (own : Own) → IsOwnOf part own → length (own_bytes own) ≤ 72
-own_short part owns.Absent of = omega (arith, ap length no_own_bytes)
+unfolding own_bytes
+own_short part owns.Absent of = omega arith
 own_short part (owns.Source disk epoch spans_offset spans_length) of = omega (arith, length-source disk epoch spans_offset spans_length (source_of part disk epoch spans_offset spans_length 0 of).0)
 own_short part (owns.Target bytes) of = omega (arith, length-target bytes (target_long part bytes of))
 
@@ -97,8 +87,8 @@ pub record SaysOwn (part : Part) (file : List ℕ) (end place : ℕ) (own : Own)
 
 pub own_says : (part : Part) (file : List ℕ) (end place : ℕ) (own : Own) (es : List Extension) → IsOwnOf part own → IsSmallOwn own → Stands file place (own_bytes own) →
     place + length (own_bytes own) ≤ end → place + length (own_bytes own) ≤ 512 → AreExtensions file end (place + length (own_bytes own)) es → SaysOwn part file end place own es
+unfolding own_bytes
 own_says part file end place owns.Absent es of small s inside sector listed =
-    let none = ap length no_own_bytes in
     let same : place + length (own_bytes owns.Absent) ≡ place = omega arith in
     record { listed = subst (λ (k : ℕ). AreExtensions file end k es) same listed; says = refl; well = search rules }
 own_says part file end place (owns.Source disk epoch spans_offset spans_length) es of small s inside sector listed =
@@ -106,24 +96,22 @@ own_says part file end place (owns.Source disk epoch spans_offset spans_length) 
     let size = length-source disk epoch spans_offset spans_length is.0 in
     let long = is.0 in
     let numbers = words_bytes (source_words epoch spans_offset spans_length) in
-    let whole = stands_as (source_are disk epoch spans_offset spans_length) s in
-    let content = content_stands own_kind 40 _ whole in
+    let content = content_stands own_kind 40 _ s in
     let there = words_there file (place + 8) 16 (source_words epoch spans_offset spans_length) small (stands_at (omega (arith, long)) (stands_right disk numbers content)) in
     let is_disk : disk ≡ reading file (place + 8) 16 = sym (stands_left disk numbers content).read ∙ ap (reading file (place + 8)) long in
     let next : place + length (own_bytes (owns.Source disk epoch spans_offset spans_length)) ≡ place + 8 + 40 = omega (arith, size) in
     record {
-      listed = (head_stands end own_kind 40 _ whole (omega arith) (λ z. omega arith) (omega arith) (omega (arith, size)), subst (λ (k : ℕ). AreExtensions file end k es) next listed);
+      listed = (head_stands end own_kind 40 _ s (omega arith) (λ z. omega arith) (omega arith) (omega (arith, size)), subst (λ (k : ℕ). AreExtensions file end k es) next listed);
       says = cc;
       well = is.1;
     }
 own_says part file end place (owns.Target bytes) es of small s inside sector listed =
-    let whole = stands_as (target_are bytes) s in
     let long = target_long part bytes of in
     let size = length-target bytes long in
-    let content = content_stands own_kind 64 _ whole in
+    let content = content_stands own_kind 64 _ s in
     let next : place + length (own_bytes (owns.Target bytes)) ≡ place + 8 + 64 = omega (arith, size) in
     record {
-      listed = (head_stands end own_kind 64 _ whole (omega arith) (λ z. omega arith) (omega arith) (omega (arith, size)), subst (λ (k : ℕ). AreExtensions file end k es) next listed);
+      listed = (head_stands end own_kind 64 _ s (omega arith) (λ z. omega arith) (omega arith) (omega (arith, size)), subst (λ (k : ℕ). AreExtensions file end k es) next listed);
       says = ap owns.Target (sym content.read ∙ ap (reading file (place + 8)) long);
       well = target_of part bytes place of (omega (arith, size));
     }
@@ -146,12 +134,9 @@ abbrev pub bitmaps_extension : ℕ → Option DirPlace → Option Extension
 bitmaps_extension place None = None
 bitmaps_extension place (Some dir) = Some (extension_at bitmaps_kind place 24)
 
-bitmaps_are : (dir : DirPlace) → bitmaps_bytes (Some dir) ≡ words_bytes (head_words bitmaps_kind 24) ++ words_bytes (bitmaps_words dir)
-unfolding bitmaps_bytes
-bitmaps_are dir = refl
-
 pub length-bitmaps : (dir : DirPlace) → length (bitmaps_bytes (Some dir)) ≡ 32
-length-bitmaps dir = ap length (bitmaps_are dir) ∙ omega (arith, length-append {A = ℕ}, length-words)
+unfolding bitmaps_bytes
+length-bitmaps dir = omega (arith, length-append {A = ℕ}, length-words)
 
 pub record SaysBitmaps (file : List ℕ) (bits end place : ℕ) (bitmaps : Option DirPlace) (es : List Extension) : Type 0 where
   pub listed : AreExtensions file end place (in_front (bitmaps_extension place bitmaps) es)
@@ -160,22 +145,21 @@ pub record SaysBitmaps (file : List ℕ) (bits end place : ℕ) (bitmaps : Optio
 
 pub bitmaps_say : (file : List ℕ) (bits end place : ℕ) (bitmaps : Option DirPlace) (es : List Extension) → AreBitmaps bits bitmaps → AreSmallBitmaps bitmaps → Stands file place (bitmaps_bytes bitmaps) →
     place + length (bitmaps_bytes bitmaps) ≤ end → AreExtensions file end (place + length (bitmaps_bytes bitmaps)) es → SaysBitmaps file bits end place bitmaps es
+unfolding bitmaps_bytes
 bitmaps_say file bits end place None es are small s inside listed =
-    let none = ap length no_bitmaps_bytes in
     let same : place + length (bitmaps_bytes None) ≡ place = omega arith in
     record { listed = subst (λ (k : ℕ). AreExtensions file end k es) same listed; says = refl; well = refl }
 bitmaps_say file bits end place (Some dir) es are small s inside listed =
     let long = length-bitmaps dir in
-    let whole = stands_as (bitmaps_are dir) s in
     let here : place + 8 + 0 ≡ place + 8 = omega arith in
-    let there = words_there file (place + 8) 0 (bitmaps_words dir) small (stands_at (sym here) (content_stands bitmaps_kind 24 _ whole)) in
+    let there = words_there file (place + 8) 0 (bitmaps_words dir) small (stands_at (sym here) (content_stands bitmaps_kind 24 _ s)) in
     let is_count : u32_at file (place + 8) ≡ dir.count = ap (u32_at file) (sym here) ∙ there.0 in
     let is_zero : u32_at file (place + 8 + 4) ≡ 0 = there.1.0 in
     let is_size : u64_at file (place + 8 + 8) ≡ dir.size = there.1.1.0 in
     let is_offset : u64_at file (place + 8 + 16) ≡ dir.offset = there.1.1.1.0 in
     let next : place + length (bitmaps_bytes (Some dir)) ≡ place + 8 + 24 = omega arith in
     record {
-      listed = (head_stands end bitmaps_kind 24 _ whole (omega arith) (λ z. omega arith) (omega arith) (omega arith), subst (λ (k : ℕ). AreExtensions file end k es) next listed);
+      listed = (head_stands end bitmaps_kind 24 _ s (omega arith) (λ z. omega arith) (omega arith) (omega arith), subst (λ (k : ℕ). AreExtensions file end k es) next listed);
       says = sym (rw (is_offset, is_size, is_count) refl);
       well = let some = are.0 in let good = are.1 in grind (arith, nat_tests);
     }

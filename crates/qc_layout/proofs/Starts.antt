@@ -142,23 +142,15 @@ alike_rules part a b es alike are =
     let fields = alike_fields a b alike in
     cc
 
-bad_length : (bits : ℕ) (a : List ℕ) (e : Extension) → is_bad_bitmaps bits a (Some e) ≡ false → e.length ≡ 24
-bad_length bits a e good = grind (arith, nat_tests)
-
 alike_bitmaps : {n : ℕ} (a b : List ℕ) (bits : ℕ) (o : Option Extension) → BeginAlike n a b → IsInIfThere n o → is_bad_bitmaps bits a o ≡ false → bitmaps_in a o ≡ bitmaps_in b o
 alike_bitmaps a b bits None alike near good = refl
 alike_bitmaps a b bits (Some e) alike near good =
-    let n = bad_length bits a e good in
+    let n : e.length ≡ 24 = grind (arith, nat_tests) in
     let h = near.high in
     let count = alike_32 a b e.place alike (omega arith) in
     let size = alike_64 a b (e.place + 8) alike (omega arith) in
     let offset = alike_64 a b (e.place + 16) alike (omega arith) in
     cc
-
-own_length : (part : Part) (e : Extension) → is_bad_own part (Some e) ≡ false → (e.length ≡ 40) ⊎ (e.length ≡ 64)
-own_length parts.Source e good = inl (grind (arith, nat_tests))
-own_length parts.Target e good = inr (grind (arith, nat_tests))
-own_length parts.Foreign e good = inl (grind (arith, nat_tests))
 
 -- an extension of these lengths lies whole in those bytes
 own_fits : {n : ℕ} (part : Part) (e : Extension) → IsIn n e → is_bad_own part (Some e) ≡ false → (e.length == 40) ≡ false → e.place + 64 ≤ n

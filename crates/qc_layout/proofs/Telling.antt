@@ -1,11 +1,12 @@
 -- What a file tells that begins with a new header: its numbers, its extensions, and nothing else of this project's own.
 use Rattle.std.proofs.Common.{rules}
-use Rattle.std.proofs.Common.{◌≡◌, inr, ℕ, ◌+◌, ◌≤◌, List, [], ◌∷◌, ◌++◌, length, drop, replicate, Bool, false, None, refl, sym, ap, ◌∙◌, subst, arith, length-append}
+use Rattle.std.proofs.Common.{◌≡◌, inr, ℕ, ◌+◌, ◌≤◌, List, [], ◌∷◌, ◌++◌, length, drop, replicate, Bool, false, Option, None, refl, sym, ap, ◌∙◌, subst, arith, length-append}
 use Rattle.std.specs.Prelude.{codes, not, ◌&&◌, nat_lt}
 use Rattle.std.proofs.lemmas.Bool.{le-ltb, or_from}
 use Rattle.disk_model.specs.Files.{reading, u32_at, number_at}
 use Rattle.disk_model.proofs.Laws.{reading-reading}
 use Rattle.qc_layout.specs.declared.extension.Extension.{Extension}
+use Rattle.qc_layout.specs.declared.header.DirPlace.{DirPlace}
 use Rattle.qc_layout.specs.declared.header.Own.{Own}
 use Rattle.qc_layout.specs.declared.header.Own.TheVariants as owns
 use Rattle.qc_layout.specs.declared.header.Part.{Part}
@@ -17,13 +18,13 @@ use Rattle.qc_layout.specs.Disks.{Passes, HasExtension}
 use Rattle.qc_layout.specs.Spelling.{be32, IsHeaderOf, AreIn, words_bytes, head_words, word32, number_words, tail_bytes, tail_length, kept_part, own_bytes, bitmaps_bytes, Fits, IsSmall, IsOwnOf}
 use Rattle.qc_layout.proofs.Standing.{Stands, stands_at, stands_as, stands_left, stands_right, inner_u32}
 use Rattle.qc_layout.proofs.WrittenNumbers.{fields_written, length-words}
-use Rattle.qc_layout.proofs.Words.{no_bitmaps_bytes, header_parts}
+use Rattle.qc_layout.proofs.Words.{header_parts}
 use Rattle.qc_layout.proofs.Passing as passing
 use Rattle.qc_layout.proofs.Passing.{numbers_pass, plain_pass, passed_in, no_fault}
 use Rattle.qc_layout.proofs.Listing.{one_listing}
 use Rattle.qc_layout.proofs.Blocks.{AreOthers}
 use Rattle.qc_layout.proofs.Heads.{in_front, extension_at, head_stands, own_short, own_extension, own_says, own_front}
-use Rattle.qc_layout.proofs.Written.{BeginsWith, ArePlaced, are_placed, tail_long, sector_in, compression_at}
+use Rattle.qc_layout.proofs.Written.{BeginsWith, extensions_pass, ArePlaced, are_placed, tail_long, sector_in, compression_at}
 
 -- ---- what a file tells
 
@@ -62,11 +63,8 @@ pub record IsNew (part : Part) (h : Header) : Type 0 where
   pub own : IsOwnOf part h.own
   pub short : length h.kept.items.items ≤ 279
 
-no_tail : (h : Header) → h.fields.header_length ≡ 112 → tail_length h ≡ 0
-no_tail h is = omega arith
-
 new_kept : (h : Header) → h.fields.header_length ≡ 112 → kept_part h ≡ h.kept.items.items
-new_kept h is = ap (λ (n : ℕ). drop n h.kept.items.items) (no_tail h is)
+new_kept h is = let none : tail_length h ≡ 0 = omega arith in ap (λ (n : ℕ). drop n h.kept.items.items) none
 
 new_long : (part : Part) (h : Header) → IsNew part h → 104 + length (tail_bytes h) ≡ h.fields.header_length
 new_long part h new =
@@ -74,7 +72,8 @@ new_long part h new =
     tail_long h (numbers_pass part 512 h.fields new.numbers) (omega arith)
 
 no_bitmaps : (part : Part) (h : Header) → IsNew part h → length (bitmaps_bytes h.bitmaps) ≡ 0
-no_bitmaps part h new = ap length (ap bitmaps_bytes new.bitmaps ∙ no_bitmaps_bytes)
+unfolding bitmaps_bytes
+no_bitmaps part h new = ap (λ (o : Option DirPlace). length (bitmaps_bytes o)) new.bitmaps
 
 pub new_fits : (part : Part) (h : Header) → IsNew part h → Fits h
 new_fits part h new =
@@ -143,19 +142,8 @@ module _ (part : Part) (h : Header) (file : List ℕ) (new : IsNew part h) (begi
         numbers = passed_in part 512 (length file) h.fields (omega (arith, begins.long)) new.numbers;
         extensions = all;
         listed = subst (λ (n : ℕ). AreExtensions file end n all) (sym is) own.listed;
-        rules = no_fault (extension_rules part file h.fields all) (
-          or_from (nat_lt 1 (count_of bitmaps_kind all)) (nat_lt 1 (count_of own_kind all)) (le-ltb _ _ one_bitmaps) (le-ltb _ _ one_own),
-          (
-            le-ltb _ _ (omega arith),
-            (
-              ap (is_bad_bitmaps h.fields.cluster_bits file) found_bitmaps,
-              (
-                ap (λ (t : Bool). t && not (is_there (first_of_kind bitmaps_kind all))) new.autoclear,
-                (ap (is_bad_own part) found_own ∙ own.well, tt),
-              ),
-            ),
-          ),
-        );
+        rules = extensions_pass part file h.fields all one_bitmaps one_own (omega arith) (ap (is_bad_bitmaps h.fields.cluster_bits file) found_bitmaps)
+            (ap (λ (t : Bool). t && not (is_there (first_of_kind bitmaps_kind all))) new.autoclear) (ap (is_bad_own part) found_own ∙ own.well);
         says = own.says ∙ ap (own_in file) (sym found_own);
       }
 

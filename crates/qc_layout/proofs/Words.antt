@@ -15,14 +15,6 @@ pub tail_words : (h : Header) → 104 < h.fields.header_length → (h.fields.com
 unfolding tail_bytes
 tail_words h long = search rules
 
-pub no_own_bytes : own_bytes owns.Absent ≡ []
-unfolding own_bytes
-no_own_bytes = refl
-
-pub no_bitmaps_bytes : bitmaps_bytes None ≡ []
-unfolding bitmaps_bytes
-no_bitmaps_bytes = refl
-
 pub header_parts : (h : Header) → words_bytes (number_words h.fields) ++ tail_bytes h ++ own_bytes h.own ++ bitmaps_bytes h.bitmaps ++ kept_part h ≡ header_bytes h
 unfolding header_bytes number_bytes
 header_parts h = refl

@@ -116,6 +116,13 @@ tail_at {n} file h passed inside s = elim (cases_lt 104 h.fields.header_length) 
       ap (reading file 112) none ∙ reading_none file 112 ∙ ap (λ (k : ℕ). take k h.kept.items.items) (sym none))
 ]
 
+-- the rules of extensions, one by one
+pub extensions_pass : (part : Part) (file : List ℕ) (f : Fields) (es : List Extension) → count_of bitmaps_kind es ≤ 1 → count_of own_kind es ≤ 1 → f.header_length + kept_length es + 88 ≤ 512
+    → is_bad_bitmaps f.cluster_bits file (first_of_kind bitmaps_kind es) ≡ false → (has_bit 0 f.autoclear_features && not (is_there (first_of_kind bitmaps_kind es))) ≡ false
+    → is_bad_own part (first_of_kind own_kind es) ≡ false → first_of (extension_rules part file f es) ≡ None
+extensions_pass part file f es bitmaps own room well autoclear fits = no_fault (extension_rules part file f es)
+    (or_from (nat_lt 1 (count_of bitmaps_kind es)) (nat_lt 1 (count_of own_kind es)) (le-ltb _ _ bitmaps) (le-ltb _ _ own), (le-ltb _ _ (omega arith), (well, (autoclear, (fits, tt)))))
+
 -- ---- what is written spells the header
 
 pub writable_spelled : (part : Part) (h : Header) (written : List ℕ) → IsWritable part h → BeginsWith written h → Spells part written h
@@ -153,20 +160,9 @@ writable_spelled part h written w begins =
       fields = sym is;
       extensions = all;
       listed = subst (λ (f : Fields). AreExtensions written (list_end f.cluster_bits) f.header_length all) (sym is) own.listed;
-      rules = subst (λ (f : Fields). first_of (extension_rules part written f all) ≡ None) (sym is) (no_fault (extension_rules part written h.fields all) (
-        or_from (nat_lt 1 (count_of bitmaps_kind all)) (nat_lt 1 (count_of own_kind all)) (le-ltb _ _ one_bitmaps) (le-ltb _ _ one_own),
-        (
-          le-ltb _ _ (omega arith),
-          (
-            ap (is_bad_bitmaps h.fields.cluster_bits written) found_bitmaps ∙ bitmaps.well,
-            (
-              ap (λ (o : Option Extension). has_bit 0 h.fields.autoclear_features && not (is_there o)) found_bitmaps
-                  ∙ ap (λ (t : Bool). has_bit 0 h.fields.autoclear_features && not t) (bitmaps_there p2 h.bitmaps) ∙ w.autoclear,
-              (ap (is_bad_own part) found_own ∙ own.well, tt),
-            ),
-          ),
-        ),
-      ));
+      rules = subst (λ (f : Fields). first_of (extension_rules part written f all) ≡ None) (sym is) (extensions_pass part written h.fields all one_bitmaps one_own (omega arith) (ap (is_bad_bitmaps h.fields.cluster_bits written) found_bitmaps ∙ bitmaps.well)
+          (ap (λ (o : Option Extension). has_bit 0 h.fields.autoclear_features && not (is_there o)) found_bitmaps ∙ ap (λ (t : Bool). has_bit 0 h.fields.autoclear_features && not t) (bitmaps_there p2 h.bitmaps) ∙ w.autoclear)
+          (ap (is_bad_own part) found_own ∙ own.well));
       kept = sym (take-append-drop (tail_length h) h.kept.items.items)
           ∙ ap (λ (l : List ℕ). l ++ kept_part h) (sym (tail_at written h passed w.tail placed.tail))
           ∙ ap (λ (l : List ℕ). tail_of written h.fields.header_length ++ l) (sym bytes);
@@ -213,11 +209,7 @@ spelled_writable part h file small s =
       kept = part_is ∙ kept_joined file es;
       room = omega (arith, ap length part_is, kept_long file es);
       bitmaps = subst (λ (g : Fields). AreBitmaps g.cluster_bits h.bitmaps) same well;
-      autoclear =
-          ap (λ (g : Fields). has_bit 0 g.autoclear_features && not (has_bitmaps h.bitmaps)) s.fields
-          ∙ ap (λ (o : Option DirPlace). has_bit 0 f.autoclear_features && not (has_bitmaps o)) s.bitmaps
-          ∙ ap (λ (t : Bool). has_bit 0 f.autoclear_features && not t) (sym (bitmaps_found_there file (first_of_kind bitmaps_kind es)))
-          ∙ rules.1.1.1.0;
+      autoclear = let a = s.fields in let b = s.bitmaps in let c = bitmaps_found_there file (first_of_kind bitmaps_kind es) in let d = rules.1.1.1.0 in cc;
       own = subst (IsOwnOf part) (sym s.own) (own_well part file (first_of_kind own_kind es) rules.1.1.1.1.0);
     }
 
