@@ -23,15 +23,6 @@ pub zero_place : (bits word offset : ℕ) → l2_of bits word ≡ Ok (Zero offse
 unfolding l2_of
 zero_place bits word offset h = search rules
 
--- what is read of a word with this offset and bit 63, and with bit 0 or not
-read_stored : (bits o : ℕ) → IsPlace bits o → l2_of bits (o + 2 ^ 63) ≡ Ok (Stored o)
-unfolding l2_of
-read_stored bits o place = search rules
-
-read_zero : (bits o : ℕ) → IsPlace bits o → l2_of bits (o + 1 + 2 ^ 63) ≡ Ok (Zero o)
-unfolding l2_of
-read_zero bits o place = search rules
-
 -- the written word as a sum
 pub stored_sum : (o : ℕ) → o < 2 ^ 56 → bit_or o (2 ^ 63) ≡ o + 2 ^ 63
 stored_sum o small = omega (arith, or_shifted_r 1 63 o (omega arith))
@@ -43,7 +34,9 @@ zero_sum o whole small =
     ap (λ (k : ℕ). bit_or k (2 ^ 63)) low ∙ omega (arith, or_shifted_r 1 63 (o + 1) (omega arith))
 
 pub stored_reads : (bits o : ℕ) → IsPlace bits o → l2_of bits (bit_or o (2 ^ 63)) ≡ Ok (Stored o)
-stored_reads bits o place = ap (l2_of bits) (stored_sum o place.is.small) ∙ read_stored bits o place
+unfolding l2_of
+stored_reads bits o place = rw (stored_sum o place.is.small) (search rules)
 
 pub zero_reads : (bits o : ℕ) → IsPlace bits o → l2_of bits (bit_or (bit_or o 1) (2 ^ 63)) ≡ Ok (Zero o)
-zero_reads bits o place = ap (l2_of bits) (zero_sum o place.is.whole place.is.small) ∙ read_zero bits o place
+unfolding l2_of
+zero_reads bits o place = rw (zero_sum o place.is.whole place.is.small) (search rules)

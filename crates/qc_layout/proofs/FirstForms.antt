@@ -126,26 +126,14 @@ entry_stored file n form below stored =
 
 -- ---- a byte of the disk, as the entries give it
 
--- what the entries give is the byte
-pub read_byte : (file : List ℕ) (x b : ℕ) → IsFirstForm file → x < disk_size file → ReadsAs file (entry_at file (x / 4096)) (x % 4096) b → b ≡ disk_byte file x
-read_byte file x b form inside reads =
+-- what the entries give is the byte, and the byte is what they give
+byte_as : (file : List ℕ) (x b : ℕ) → IsFirstForm file → x < disk_size file
+    → (ReadsAs file (entry_at file (x / 4096)) (x % 4096) b → b ≡ disk_byte file x) × (b ≡ disk_byte file x → ReadsAs file (entry_at file (x / 4096)) (x % 4096) b)
+byte_as file x b form inside =
     let below : x / 4096 < clusters_of file = omega arith in
     elim (cases_eq (host_of file (x / 4096)) 0) [
-      | inl none ↦
-          let zero : b ≡ 0 = subst (λ (e : Result L2Entry EntryFault). ReadsAs file e (x % 4096) b) (entry_hole file (x / 4096) form below none) reads in
-          zero ∙ sym (hole_byte file x none)
-      | inr some ↦
-          let there : b ≡ byte file (host_of file (x / 4096) + x % 4096) = subst (λ (e : Result L2Entry EntryFault). ReadsAs file e (x % 4096) b) (entry_stored file (x / 4096) form below some) reads in
-          there ∙ sym (stored_byte file x some)
-    ]
-
--- and the byte is what they give
-pub reads_byte : (file : List ℕ) (x b : ℕ) → IsFirstForm file → x < disk_size file → b ≡ disk_byte file x → ReadsAs file (entry_at file (x / 4096)) (x % 4096) b
-reads_byte file x b form inside is =
-    let below : x / 4096 < clusters_of file = omega arith in
-    elim (cases_eq (host_of file (x / 4096)) 0) [
-      | inl none ↦ subst (λ (e : Result L2Entry EntryFault). ReadsAs file e (x % 4096) b) (sym (entry_hole file (x / 4096) form below none)) (is ∙ hole_byte file x none)
-      | inr some ↦ subst (λ (e : Result L2Entry EntryFault). ReadsAs file e (x % 4096) b) (sym (entry_stored file (x / 4096) form below some)) (is ∙ stored_byte file x some)
+      | inl none ↦ rw (entry_hole file (x / 4096) form below none, hole_byte file x none) (λ is. is, λ is. is)
+      | inr some ↦ rw (entry_stored file (x / 4096) form below some, stored_byte file x some) (λ is. is, λ is. is)
     ]
 
 -- ---- what it stands for
@@ -163,7 +151,7 @@ standing_in_form part file disk stands form =
       bytes = same_file (disk_of file) disk (length-disk_of file ∙ sym long) (λ x lt.
           let inside : x < disk_size file = omega (arith, length-disk_of file) in
           let reads = subst (λ (bits : ℕ). ReadsWith file bits x (byte disk x)) (first_bits file form) (stands.bytes x (omega (arith, long))) in
-          byte_of_disk file x inside ∙ sym (read_byte file x (byte disk x) form inside reads));
+          byte_of_disk file x inside ∙ sym ((byte_as file x (byte disk x) form inside).0 reads));
     }
 
 -- and one that does so in this form stands for the disk, if it passes the rules of a header.
@@ -177,7 +165,7 @@ standing_by_format part file disk passes stands =
       bytes = λ x lt.
           let inside : x < disk_size file = omega (arith, long) in
           let is : byte disk x ≡ disk_byte file x = sym (ap (λ (d : List ℕ). byte d x) stands.bytes) ∙ byte_of_disk file x inside in
-          subst (λ (bits : ℕ). ReadsWith file bits x (byte disk x)) (sym (first_bits file form)) (reads_byte file x (byte disk x) form inside is);
+          subst (λ (bits : ℕ). ReadsWith file bits x (byte disk x)) (sym (first_bits file form)) ((byte_as file x (byte disk x) form inside).1 is);
     }
 
 -- ---- its first cluster

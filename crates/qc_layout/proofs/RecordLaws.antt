@@ -68,10 +68,7 @@ unfolding word64
 point_stands {file} {at} p s low_epoch low_serial =
     let e : u64_at file at ≡ p.epoch = first_u64 p.epoch (word64 p.serial) s low_epoch in
     let f : u64_at file (at + 8) ≡ p.serial = stands_u64 p.serial (past_u64 p.epoch (word64 p.serial) s) low_serial in
-    same_point (u64_at file at) (u64_at file (at + 8)) p.epoch p.serial e f
-  where
-    same_point : (a b c d : ℕ) → a ≡ c → b ≡ d → ◌≡◌ {A = Point} (record { epoch = a; serial = b }) (record { epoch = c; serial = d })
-    same_point a b c d p q = cc
+    rw (e, f) refl
 
 -- ---- what a record says again
 
@@ -131,13 +128,7 @@ abbrev head_of : (s : State) (b : Base) (u : ℕ) → List ℕ
 head_of s b u = to_be_bytes w32 1 ++ to_be_bytes w32 (state_number s) ++ to_be_bytes w32 (kind_number s b) ++ to_be_bytes w32 u
 
 begins : (s : State) (b : Base) (u : ℕ) (rest : List ℕ) → u < 2 ^ 32 → Starts (head_of s b u ++ rest) (state_number s) (kind_number s b) u
-begins s b u rest small = starts (state_number s) (kind_number s b) u rest (low_state s) (low_kind s b) small
-  where
-    low_state : (t : State) → state_number t < 2 ^ 32
-    low_state t = search rules
-
-    low_kind : (t : State) (d : Base) → kind_number t d < 2 ^ 32
-    low_kind t d = search rules
+begins s b u rest small = starts (state_number s) (kind_number s b) u rest (search rules) (search rules) small
 
 length_base : (b : Base) → length (base_bytes b) ≡ 16
 length_base b = search rules
@@ -163,13 +154,9 @@ sealed_said bits id b q u low long is =
 
 open_said : (bits : ℕ) (s : State) (u : ℕ) → u < 2 ^ 32 → (u == 2 ^ bits) ≡ true → (state_number s == 2) ≡ false → (if state_number s == 0 then Blank else Begun) ≡ s
     → IsSaid bits (record { state = s; disk = replicate 16 0; base = Loose; point = record { epoch = 0; serial = 0 }; unit = u }) (head_of s Loose u ++ replicate 48 0)
-open_said bits s u low is unsealed state = record {
-  none = fault_none bits (head_of s Loose u ++ replicate 48 0) s Loose u at is;
-  is = open_of (head_of s Loose u ++ replicate 48 0) s (state_number s) (kind_number s Loose) u at unsealed state;
-}
-  where
-    at : Starts (head_of s Loose u ++ replicate 48 0) (state_number s) (kind_number s Loose) u
-    at = begins s Loose u (replicate 48 0) low
+open_said bits s u low is unsealed state =
+    let at = begins s Loose u (replicate 48 0) low in
+    record { none = fault_none bits _ s Loose u at is; is = open_of _ s (state_number s) (kind_number s Loose) u at unsealed state }
 
 same_record : {id id2 : List ℕ} {b b2 : Base} {q q2 : Point} {u : ℕ} (s : State) → id ≡ id2 → b ≡ b2 → q ≡ q2
     → ◌≡◌ {A = Record} (record { state = s; disk = id; base = b; point = q; unit = u }) (record { state = s; disk = id2; base = b2; point = q2; unit = u })
