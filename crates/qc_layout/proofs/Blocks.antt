@@ -1,9 +1,9 @@
 -- Extensions that stand one behind the other, as blocks of bytes.
 use Rattle.std.specs.Int.{w32}
 use Rattle.std.proofs.Common.{rules}
-use Rattle.std.proofs.Common.{◌≡◌, ℕ, ◌+◌, ◌-◌, ◌≤◌, List, [], ◌∷◌, ◌++◌, length, Bool, true, false, Some, None, refl, sym, ap, ◌∙◌, subst, arith, length-append}
-use Rattle.std.specs.Prelude.{not, ◌||◌, ◌==◌, if◌then◌else◌, suc}
-use Rattle.disk_model.specs.Files.{reading, u32_at}
+use Rattle.std.proofs.Common.{◌≡◌, ℕ, ◌+◌, ◌-◌, ◌≤◌, List, [], ◌∷◌, ◌++◌, length, true, false, None, refl, sym, ap, ◌∙◌, subst, arith, length-append}
+use Rattle.std.specs.Prelude.{◌==◌, if◌then◌else◌}
+use Rattle.disk_model.specs.Files.{u32_at}
 use Rattle.disk_model.proofs.Laws.{length-reading, number-reading}
 use Rattle.qc_layout.specs.declared.extension.Extension.{Extension}
 use Rattle.qc_layout.specs.Extensions.{IsEnd, IsExtension, AreExtensions, behind, padded, is_kept, bytes_of, kept_bytes, kept_length, count_of, first_of_kind, bitmaps_kind, own_kind}

@@ -1,14 +1,10 @@
 -- Words of the second-level table, written and read again.
 use Rattle.std.proofs.Common.{rules}
-use Rattle.std.proofs.Common.{◌≡◌, ℕ, ◌+◌, ◌*◌, ◌/◌, ◌%◌, ◌^◌, ◌<◌, Bool, true, false, Result, Ok, Err, refl, sym, ap, ◌∙◌, subst, arith}
-use Rattle.std.specs.Prelude.{◌==◌, if◌then◌else◌}
+use Rattle.std.proofs.Common.{◌≡◌, ℕ, ◌+◌, ◌*◌, ◌/◌, ◌%◌, ◌^◌, ◌<◌, Ok, ap, ◌∙◌, subst, arith}
 use Rattle.std.specs.Int.Bits.{bit_or, or_shifted_r}
 use Rattle.std.proofs.lemmas.Nat.{or_shifted}
-use Rattle.qc_layout.specs.declared.entry.EntryFault.{EntryFault}
-use Rattle.qc_layout.specs.declared.entry.EntryFault.TheVariants.{Reserved, Misaligned}
-use Rattle.qc_layout.specs.declared.entry.L2Entry.{L2Entry}
-use Rattle.qc_layout.specs.declared.entry.L2Entry.TheVariants.{Hole, Zero, Stored, Compressed}
-use Rattle.qc_layout.specs.Entries.{offset_in, l2_of, IsOffset}
+use Rattle.qc_layout.specs.declared.entry.L2Entry.TheVariants.{Zero, Stored}
+use Rattle.qc_layout.specs.Entries.{l2_of, IsOffset}
 
 -- an aligned offset that an entry can hold
 pub record IsPlace (bits offset : ℕ) : Type 0 where

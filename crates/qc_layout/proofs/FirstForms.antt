@@ -1,8 +1,7 @@
 -- The one form of image that `replay` takes, by the format: a file of that form stands in it for the disk that it stands for.
 use Rattle.std.specs.Int.{w64, w32}
 use Rattle.std.proofs.Common.{rules}
-use Rattle.std.proofs.Common.{◌≡◌, ◌≢◌, inl, inr, ⊎_elim, ℕ, ◌+◌, ◌*◌, ◌/◌, ◌%◌, ◌^◌, ◌<◌, ◌≤◌, max, List, length, Bool, Option, Some, None, Result, Ok, refl, sym, ap, ◌∙◌, subst, arith}
-use Rattle.std.specs.Prelude.{◌==◌, if◌then◌else◌}
+use Rattle.std.proofs.Common.{◌≡◌, ◌≢◌, inl, inr, ℕ, ◌+◌, ◌*◌, ◌/◌, ◌%◌, ◌^◌, ◌<◌, ◌≤◌, max, List, length, Option, Some, None, Result, Ok, refl, sym, ap, ◌∙◌, subst, arith}
 use Rattle.std.proofs.lemmas.Bool.{ne_eqb, cases_eq}
 use Rattle.std.proofs.lemmas.List.FromFn.{length-map-range_with_len, get_or-map-range_with_len}
 use Rattle.disk_model.specs.Files.{byte, u64_at}
@@ -17,8 +16,6 @@ use Rattle.qc_layout.specs.Extensions.{list_end}
 use Rattle.qc_layout.specs.Disks.{Passes, Stands, ReadsAs, bits_of, words_in, entry_under, entry_at}
 use Rattle.qc_layout.specs.FirstForm.{host_of, table_offset, l1_offset, clusters_of, disk_byte, disk_of, disk_size, IsPlainEntry, IsFirstForm, StandsInFirstForm, IsRest}
 use Rattle.qc_layout.specs.Laws.{BeginAlike, start_length}
-use Rattle.qc_layout.proofs.EntryLaws.{stored_place}
-use Rattle.qc_layout.proofs.PlainLaws.{l1_plain, l2_plain, l2_hole}
 
 -- ---- the disk, byte by byte
 

@@ -1,9 +1,8 @@
 -- This project's extension and that of bitmaps, in front of others, as they are written.
 use Rattle.std.proofs.Common.{rules}
-use Rattle.std.proofs.Common.{◌≡◌, ◌≢◌, ℕ, ◌+◌, ◌^◌, ◌<◌, ◌≤◌, List, ◌∷◌, ◌++◌, length, Bool, false, Option, Some, None, refl, sym, ap, ◌∙◌, subst, arith, length-append}
-use Rattle.std.specs.Prelude.{not, ◌||◌, nat_lt, ◌==◌}
+use Rattle.std.proofs.Common.{◌≡◌, ◌≢◌, ℕ, ◌+◌, ◌^◌, ◌<◌, ◌≤◌, List, ◌∷◌, ◌++◌, length, false, Option, Some, None, refl, sym, ap, ◌∙◌, subst, arith, length-append}
 use Rattle.std.proofs.lemmas.Bool.Decides.{nat_tests}
-use Rattle.std.proofs.lemmas.Bool.{le-ltb, ne_eqb}
+use Rattle.std.proofs.lemmas.Bool.{le-ltb}
 use Rattle.disk_model.specs.Files.{reading, u32_at, u64_at}
 use Rattle.qc_layout.specs.declared.extension.Extension.{Extension}
 use Rattle.qc_layout.specs.declared.header.DirPlace.{DirPlace}
@@ -11,10 +10,9 @@ use Rattle.qc_layout.specs.declared.header.Own.{Own}
 use Rattle.qc_layout.specs.declared.header.Own.TheVariants as owns
 use Rattle.qc_layout.specs.declared.header.Part.{Part}
 use Rattle.qc_layout.specs.declared.header.Part.TheVariants as parts
-use Rattle.qc_layout.specs.Header.{is_place}
 use Rattle.qc_layout.specs.Extensions.{IsExtension, AreExtensions, kept_bytes, kept_length, count_of, first_of_kind, bitmaps_kind, own_kind, own_in, bitmaps_in, is_bad_own, is_bad_bitmaps, is_there}
 use Rattle.qc_layout.specs.Spelling.{words_bytes, head_words, source_words, bitmaps_words, own_bytes, bitmaps_bytes, IsSmallOwn, AreSmallBitmaps, AreBitmaps, IsOwnOf, has_bitmaps}
-use Rattle.qc_layout.proofs.Standing.{Stands, stands_at, stands_as, stands_left, stands_right}
+use Rattle.qc_layout.proofs.Standing.{Stands, stands_at, stands_left, stands_right}
 use Rattle.qc_layout.proofs.WrittenNumbers.{words_there, length-words}
 
 -- one in front, if it is there

@@ -1,6 +1,6 @@
 -- The header that was made is the one that the bytes spell.
 use Rattle.std.proofs.Common.{rules}
-use Rattle.std.proofs.Common.{◌≡◌, ℕ, List, ◌++◌, length, None, sym, ap, ◌∙◌, subst, arith}
+use Rattle.std.proofs.Common.{◌≡◌, ℕ, List, length, None, arith}
 use Rattle.std.specs.List.{All}
 use Rattle.std.proofs.lemmas.List.Elements.{All-same}
 use Rattle.qc_layout.specs.declared.extension.Extension.{Extension}
@@ -8,7 +8,7 @@ use Rattle.qc_layout.specs.declared.header.Fields.{Fields}
 use Rattle.qc_layout.specs.declared.header.Header.{Header}
 use Rattle.qc_layout.specs.declared.header.Part.{Part}
 use Rattle.qc_layout.specs.Header.{fields_of, first_of, number_fault}
-use Rattle.qc_layout.specs.Extensions.{AreExtensions, list_end, extension_rules, tail_of, kept_bytes}
+use Rattle.qc_layout.specs.Extensions.{AreExtensions, list_end, extension_rules}
 use Rattle.qc_layout.specs.Reading.{IsNear, IsMade}
 use Rattle.qc_layout.specs.Spelling.{AreIn, IsHeaderOf}
 use Rattle.qc_layout.proofs.Passing.{listing_near}

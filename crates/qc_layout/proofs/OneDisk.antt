@@ -1,11 +1,10 @@
 -- A file stands for one disk at most.
 use Rattle.std.proofs.Common.{rules}
-use Rattle.std.proofs.Common.{◌≡◌, ℕ, ◌/◌, ◌%◌, ◌^◌, ◌<◌, List, length, Result, Ok, Err, sym, subst, ◌∙◌}
+use Rattle.std.proofs.Common.{◌≡◌, ℕ, ◌/◌, ◌%◌, ◌^◌, ◌<◌, List, length, Result, sym, subst, ◌∙◌}
 use Rattle.disk_model.specs.Files.{byte}
 use Rattle.disk_model.proofs.Laws.{same_file}
 use Rattle.qc_layout.specs.declared.entry.EntryFault.{EntryFault}
 use Rattle.qc_layout.specs.declared.entry.L2Entry.{L2Entry}
-use Rattle.qc_layout.specs.declared.entry.L2Entry.TheVariants.{Hole, Zero, Stored, Compressed}
 use Rattle.qc_layout.specs.declared.header.Part.{Part}
 use Rattle.qc_layout.specs.Disks.{Stands, ReadsAs, entry_at, bits_of}
 

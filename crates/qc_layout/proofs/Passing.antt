@@ -1,15 +1,14 @@
 -- What holds where the rules of a header pass.
 use Rattle.std.proofs.Common.{rules}
-use Rattle.std.proofs.Common.{◌≡◌, ℕ, ◌%◌, ◌≤◌, Bool, true, false, List, [], ◌∷◌, Option, Some, None, refl, arith}
-use Rattle.std.specs.Prelude.{not, nat_lt, ◌==◌, ◌||◌, if◌then◌else◌}
+use Rattle.std.proofs.Common.{◌≡◌, ℕ, ◌%◌, ◌≤◌, Bool, false, List, [], ◌∷◌, Option, Some, None, refl, arith}
+use Rattle.std.specs.Prelude.{if◌then◌else◌}
 use Rattle.std.specs.List.{All}
-use Rattle.std.proofs.lemmas.Bool.Decides.{nat_tests}
 use Rattle.std.proofs.lemmas.List.Elements.{All-nil, All-cons}
 use Rattle.qc_layout.specs.declared.extension.Extension.{Extension}
 use Rattle.qc_layout.specs.declared.header.Fields.{Fields}
 use Rattle.qc_layout.specs.declared.header.Part.{Part}
 use Rattle.qc_layout.specs.declared.header.HeaderFault.{HeaderFault}
-use Rattle.qc_layout.specs.Header.{Rule, first_of, or_else, form_rules, feature_rules, table_rules, number_fault, is_bits}
+use Rattle.qc_layout.specs.Header.{Rule, first_of, or_else, form_rules, feature_rules, table_rules, number_fault}
 use Rattle.qc_layout.specs.Extensions.{IsExtension, AreExtensions, behind}
 use Rattle.qc_layout.specs.Reading.{IsNear}
 

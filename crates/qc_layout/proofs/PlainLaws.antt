@@ -1,9 +1,7 @@
 -- Plain entries of both levels: what is read of a word that is 0 or names a stored cluster, and which words that is read of.
 use Rattle.std.proofs.Common.{rules}
-use Rattle.std.proofs.Common.{◌≡◌, ◌≢◌, ◌⊎◌, inl, inr, ⊎_elim, ℕ, ◌/◌, ◌%◌, ◌^◌, Bool, true, false, Option, Some, None, Result, Ok, Err, refl, ap, ◌∙◌}
-use Rattle.std.specs.Prelude.{◌==◌, ◌&&◌, if◌then◌else◌}
-use Rattle.qc_layout.specs.declared.entry.EntryFault.{EntryFault}
-use Rattle.qc_layout.specs.declared.entry.EntryFault.TheVariants.{Reserved, Misaligned}
+use Rattle.std.proofs.Common.{◌≡◌, ◌⊎◌, ℕ, ◌%◌, ◌^◌, Some, None, Ok}
+use Rattle.std.specs.Prelude.{◌==◌, if◌then◌else◌}
 use Rattle.qc_layout.specs.declared.entry.L2Entry.TheVariants.{Hole, Stored}
 use Rattle.qc_layout.specs.Entries.{offset_in, l1_of, l2_of}
 use Rattle.qc_layout.specs.FirstForm.{IsPlainEntry}

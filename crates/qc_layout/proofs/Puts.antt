@@ -1,11 +1,11 @@
 -- Steps that write behind one another.
 use Rattle.std.proofs.Common.{rules}
 use Rattle.std.proofs.lemmas.Grind.{common_steps}
-use Rattle.std.proofs.Common.{◌≡◌, ℕ, ◌+◌, ◌-◌, min, List, [], ◌∷◌, ◌++◌, length, take, drop, replicate, ap, ◌∙◌, subst, arith, length-append}
+use Rattle.std.proofs.Common.{◌≡◌, ℕ, ◌+◌, ◌-◌, min, List, [], ◌++◌, length, take, drop, replicate, ap, ◌∙◌, subst, arith, length-append}
 use Rattle.std.proofs.lemmas.List.{drop-replicate}
 use Rattle.std.proofs.Math.Seq.{take-append_seam, drop-append-add}
 use Rattle.qc_layout.specs.declared.writing.Word.{Word}
-use Rattle.qc_layout.specs.Spelling.{Puts, word_bytes, words_bytes, IsSmallWord, AreSmallWords}
+use Rattle.qc_layout.specs.Spelling.{Puts, words_bytes, AreSmallWords}
 
 -- nothing is written
 pub puts_none : (bytes old : List ℕ) (place : ℕ) → bytes ≡ [] → Puts bytes old place old place

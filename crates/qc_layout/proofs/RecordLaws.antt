@@ -1,12 +1,10 @@
 -- A record written piece by piece, and read again.
 use Rattle.std.proofs.Common.{rules}
 use Rattle.std.proofs.lemmas.Grind.{common_steps}
-use Rattle.std.proofs.Common.{◌≡◌, ℕ, ◌+◌, ◌^◌, ◌<◌, List, [], ◌++◌, length, take, drop, replicate, Bool, true, false, Option, Some, None, refl, sym, ap, ◌∙◌, subst, arith, length-append, append_assoc, drop-drop}
-use Rattle.std.specs.Prelude.{not, ◌&&◌, ◌||◌, nat_lt, ◌==◌, if◌then◌else◌}
-use Rattle.std.specs.Int.{to_be_bytes, w32, w64}
-use Rattle.std.proofs.Math.Seq.{take-append_seam, drop-append-add}
-use Rattle.std.proofs.lemmas.List.{append-nil}
-use Rattle.disk_model.specs.Files.{reading, u32_at, u64_at}
+use Rattle.std.proofs.Common.{◌≡◌, ℕ, ◌+◌, ◌^◌, ◌<◌, List, ◌++◌, length, take, drop, replicate, true, false, None, refl, sym, ap, ◌∙◌, subst, arith, length-append}
+use Rattle.std.specs.Prelude.{◌==◌, if◌then◌else◌}
+use Rattle.std.specs.Int.{to_be_bytes, w32}
+use Rattle.disk_model.specs.Files.{reading, u64_at}
 use Rattle.disk_model.proofs.Laws.{reading_all, length-reading}
 use Rattle.qc_layout.specs.Spelling.{word32, word64}
 use Rattle.qc_layout.proofs.Standing.{Stands, stands_at, stands_left, stands_right, stands_u32, stands_u64, first_u64, past_u64}
@@ -16,9 +14,7 @@ use Rattle.span_algebra.specs.declared.spans.Base.TheVariants.{Whole, Since, Loo
 use Rattle.qc_layout.specs.declared.records.Record.{Record}
 use Rattle.qc_layout.specs.declared.records.State.{State}
 use Rattle.qc_layout.specs.declared.records.State.TheVariants.{Blank, Begun, Sealed}
-use Rattle.qc_layout.specs.declared.records.RecordFault.{RecordFault}
-use Rattle.qc_layout.specs.declared.records.RecordFault.TheVariants.{RecordVersion, RecordState, RecordKind, RecordUnit}
-use Rattle.qc_layout.specs.Records.{version_in, state_in, kind_in, unit_in, point_in, base_in, record_fault, record_of, record_bytes, state_number, kind_number, point_bytes, base_bytes, claim_bytes}
+use Rattle.qc_layout.specs.Records.{version_in, state_in, kind_in, unit_in, point_in, record_fault, record_of, record_bytes, state_number, kind_number, point_bytes, base_bytes, claim_bytes}
 
 -- ---- pieces
 

@@ -1,9 +1,8 @@
 -- What is read of a file depends on its first sector alone, and on its first cluster up to 65536 bytes.
 use Rattle.std.specs.Int.{w64, w32}
 use Rattle.std.proofs.Common.{rules}
-use Rattle.std.proofs.Common.{◌≡◌, ◌⊎◌, inl, inr, ℕ, ◌+◌, ◌-◌, ◌*◌, ◌%◌, ◌^◌, ◌<◌, ◌≤◌, max, Bool, true, false, List, [], ◌∷◌, ◌++◌, length, take, Option, Some, None, refl, sym, ap, ◌∙◌, subst, arith, get_or-take, length-take}
-use Rattle.std.specs.Prelude.{not, nat_lt, ◌==◌, ◌||◌, if◌then◌else◌}
-use Rattle.std.proofs.lemmas.Bool.{eqb-true}
+use Rattle.std.proofs.Common.{◌≡◌, inl, inr, ℕ, ◌+◌, ◌-◌, ◌*◌, ◌%◌, ◌^◌, ◌<◌, ◌≤◌, max, false, List, [], ◌∷◌, ◌++◌, length, take, Option, Some, None, refl, sym, ap, ◌∙◌, subst, arith, get_or-take, length-take}
+use Rattle.std.specs.Prelude.{nat_lt, ◌==◌}
 use Rattle.std.proofs.lemmas.Bool.Decides.{nat_tests}
 use Rattle.std.proofs.lemmas.Nat.{pow-add}
 use Rattle.std.proofs.Math.Nat.{le-max_left, le-max_right, le_trans}
@@ -12,12 +11,11 @@ use Rattle.disk_model.proofs.Laws.{byte-reading, reading-reading, reading_same, 
 use Rattle.qc_layout.specs.declared.extension.Extension.{Extension}
 use Rattle.qc_layout.specs.declared.header.Fields.{Fields}
 use Rattle.qc_layout.specs.declared.header.Header.{Header}
-use Rattle.qc_layout.specs.declared.header.Own.TheVariants as owns
 use Rattle.qc_layout.specs.declared.header.Part.{Part}
 use Rattle.qc_layout.specs.declared.header.Part.TheVariants as parts
 use Rattle.qc_layout.specs.declared.header.HeaderFault.{HeaderFault}
-use Rattle.qc_layout.specs.Header.{first_of, fields_of, number_fault, is_place}
-use Rattle.qc_layout.specs.Extensions.{IsEnd, IsExtension, StandInRow, AreExtensions, behind, padded, list_end, extension_rules, is_bad_bitmaps, is_bad_own, is_kept, bytes_of, kept_bytes, tail_of, bitmaps_in, own_in, first_of_kind, bitmaps_kind, own_kind}
+use Rattle.qc_layout.specs.Header.{first_of, fields_of, number_fault}
+use Rattle.qc_layout.specs.Extensions.{IsEnd, IsExtension, StandInRow, AreExtensions, behind, padded, list_end, extension_rules, is_bad_bitmaps, is_bad_own, kept_bytes, tail_of, bitmaps_in, own_in, first_of_kind, bitmaps_kind, own_kind}
 use Rattle.qc_layout.specs.Disks as disks
 use Rattle.qc_layout.specs.Disks.{IsBackup, IsReadAs}
 use Rattle.qc_layout.specs.Spelling.{AreIn, IsHeaderOf, IsFault}

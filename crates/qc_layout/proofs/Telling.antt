@@ -1,14 +1,12 @@
 -- What a file tells that begins with a new header: its numbers, its extensions, and nothing else of this project's own.
 use Rattle.std.proofs.Common.{rules}
 use Rattle.std.proofs.Common.{◌≡◌, inr, ℕ, ◌+◌, ◌≤◌, List, [], ◌∷◌, ◌++◌, length, drop, replicate, Bool, false, Option, None, refl, sym, ap, ◌∙◌, subst, arith, length-append}
-use Rattle.std.specs.Prelude.{codes, not, ◌&&◌, nat_lt}
-use Rattle.std.proofs.lemmas.Bool.{le-ltb, or_from}
+use Rattle.std.specs.Prelude.{codes, not, ◌&&◌}
 use Rattle.disk_model.specs.Files.{reading, u32_at, number_at}
 use Rattle.disk_model.proofs.Laws.{reading-reading}
 use Rattle.qc_layout.specs.declared.extension.Extension.{Extension}
 use Rattle.qc_layout.specs.declared.header.DirPlace.{DirPlace}
 use Rattle.qc_layout.specs.declared.header.Own.{Own}
-use Rattle.qc_layout.specs.declared.header.Own.TheVariants as owns
 use Rattle.qc_layout.specs.declared.header.Part.{Part}
 use Rattle.qc_layout.specs.declared.header.Fields.{Fields}
 use Rattle.qc_layout.specs.declared.header.Header.{Header}

@@ -1,8 +1,7 @@
 -- The parts of a written header, as words of four and of eight bytes.
 use Rattle.std.proofs.Common.{rules}
-use Rattle.std.proofs.Common.{◌≡◌, ◌<◌, ◌≤◌, [], ◌∷◌, ◌++◌, take, refl, None}
+use Rattle.std.proofs.Common.{◌≡◌, ◌<◌, ◌≤◌, [], ◌∷◌, ◌++◌, take, refl}
 use Rattle.qc_layout.specs.declared.header.Header.{Header}
-use Rattle.qc_layout.specs.declared.header.Own.TheVariants as owns
 use Rattle.qc_layout.specs.Spelling.{words_bytes, number_words, number_bytes, tail_bytes, tail_length, own_bytes, bitmaps_bytes, header_bytes, kept_part}
 
 -- a header of 104 bytes has no more

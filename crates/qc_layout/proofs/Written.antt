@@ -1,23 +1,19 @@
 -- A header that was written is read again, by whoever reads a file that begins with its sector.
 use Rattle.qc_layout.proofs.Kept.{reading_none}
 use Rattle.std.proofs.Common.{rules}
-use Rattle.std.proofs.Common.{◌≡◌, inl, inr, ℕ, ◌+◌, ◌-◌, ◌^◌, ◌<◌, ◌≤◌, List, [], ◌∷◌, ◌++◌, length, take, drop, replicate, Bool, false, Option, Some, None, refl, sym, ap, ◌∙◌, subst, arith, length-append}
-use Rattle.std.specs.Prelude.{not, ◌&&◌, ◌||◌, nat_lt, ◌==◌, if◌then◌else◌}
-use Rattle.std.proofs.lemmas.Bool.{cases_lt, le-ltb, ltb-false, eqb-true, eqb-false, ne_eqb, not-false, or_from, or_parts}
+use Rattle.std.proofs.Common.{◌≡◌, inl, inr, ℕ, ◌+◌, ◌-◌, ◌^◌, ◌<◌, ◌≤◌, List, [], ◌∷◌, ◌++◌, length, take, drop, replicate, Bool, false, Option, Some, None, sym, ap, ◌∙◌, subst, arith, length-append}
+use Rattle.std.specs.Prelude.{not, ◌&&◌, nat_lt}
+use Rattle.std.proofs.lemmas.Bool.{cases_lt, le-ltb, ltb-false, or_from}
 use Rattle.std.proofs.lemmas.List.{length-take, length-replicate, take-append-drop}
 use Rattle.std.proofs.Math.Nat.{pow-le-pow_right}
 use Rattle.std.proofs.Math.Seq.{drop-append_seam}
-use Rattle.disk_model.specs.Files.{byte, reading, u32_at, u64_at}
+use Rattle.disk_model.specs.Files.{byte, reading, u32_at}
 use Rattle.disk_model.proofs.Laws.{length-reading, byte-reading}
 use Rattle.qc_layout.specs.declared.extension.Extension.{Extension}
-use Rattle.qc_layout.specs.declared.header.DirPlace.{DirPlace}
-use Rattle.qc_layout.specs.declared.header.Own.{Own}
-use Rattle.qc_layout.specs.declared.header.Own.TheVariants as owns
 use Rattle.qc_layout.specs.declared.header.Part.{Part}
-use Rattle.qc_layout.specs.declared.header.Part.TheVariants as parts
 use Rattle.qc_layout.specs.declared.header.Fields.{Fields}
 use Rattle.qc_layout.specs.declared.header.Header.{Header}
-use Rattle.qc_layout.specs.Header.{fields_of, number_fault, first_of, has_bit, is_place}
+use Rattle.qc_layout.specs.Header.{fields_of, number_fault, first_of, has_bit}
 use Rattle.qc_layout.specs.Extensions.{list_end, IsEnd, AreExtensions, extension_rules, first_of_kind, count_of, kept_bytes, kept_length, tail_of, bitmaps_in, own_in, bitmaps_kind, own_kind, is_bad_bitmaps, is_bad_own, is_there}
 use Rattle.qc_layout.specs.Spelling.{Spells, words_bytes, number_words, tail_bytes, tail_length, kept_part, own_bytes, bitmaps_bytes, header_bytes, Fits, sector_of, joined, IsSmall, IsWritable, AreBitmaps, has_bitmaps, IsOwnOf}
 use Rattle.qc_layout.proofs.Standing.{Stands, stands_at, stands_as, stands_left, stands_right, inner_u32, zeros_u32}
