@@ -1,7 +1,7 @@
 -- What a file is that was laid out with a new header.
 use Rattle.std.proofs.Common.{◌≡◌, ℕ, ◌+◌, ◌*◌, ◌%◌, ◌^◌, ◌<◌, ◌≤◌, List, [], ◌++◌, length, replicate, Bool, true, false, Option, Some, None, refl, sym, ap, ◌∙◌, subst, arith, length-append}
 use Rattle.std.specs.Prelude.{not, ◌&&◌, ◌||◌, nat_lt, ◌==◌}
-use Rattle.std.proofs.lemmas.Bool.{le-ltb, lt-ltb, ne_eqb}
+use Rattle.std.proofs.lemmas.Bool.{le-ltb, lt-ltb, ne_eqb, or_from}
 use Rattle.std.proofs.lemmas.Nat.{one_shl, mul-le}
 use Rattle.std.proofs.Math.Nat.{mul-mod_right}
 use Rattle.disk_model.specs.Files.{reading, number_at}
@@ -16,7 +16,7 @@ use Rattle.qc_layout.specs.Header.{is_place, is_disk, l1_needed, number_fault, f
 use Rattle.qc_layout.specs.Disks.{place_of}
 use Rattle.qc_layout.specs.Records.{record_fault, record_of, record_bytes}
 use Rattle.qc_layout.specs.Spelling.{Fits, sector_of, own_bytes, number_words, AreSmallWords, IsSmallOwn, AreSmallBitmaps, IsOwnOf}
-use Rattle.qc_layout.proofs.RuleLaws.{no_fault, or_none, false_or}
+use Rattle.qc_layout.proofs.Passing.{no_fault, or_none}
 use Rattle.qc_layout.proofs.Heads.{length-target}
 use Rattle.qc_layout.proofs.Written.{BeginsWith}
 use Rattle.qc_layout.proofs.Telling.{Tells, IsNew, tells_passes, tells_own, new_fits, bare_tells, backed_tells}
@@ -67,11 +67,11 @@ module _ (bits size backing_place backing_length : ℕ) (own : Own) (kept : List
       let tests = form_tests bits size tested in
       let needed = l1_needed bits size in
       let clusters = table_clusters bits size in
-      let level = false_or (nat_lt (2 ^ 20) needed || nat_lt needed needed) (not (is_place bits f.l1_table_offset))
-      (false_or (nat_lt (2 ^ 20) needed) (nat_lt needed needed) (le-ltb _ _ form.entries) (le-ltb _ _ (omega arith)))
+      let level = or_from (nat_lt (2 ^ 20) needed || nat_lt needed needed) (not (is_place bits f.l1_table_offset))
+      (or_from (nat_lt (2 ^ 20) needed) (nat_lt needed needed) (le-ltb _ _ form.entries) (le-ltb _ _ (omega arith)))
       (ap not level_place) in
-      let table = false_or ((clusters == 0) || nat_lt (2 ^ 26) (clusters * 2 ^ bits)) (not (is_place bits f.refcount_table_offset))
-      (false_or (clusters == 0) (nat_lt (2 ^ 26) (clusters * 2 ^ bits)) (ne_eqb _ _ (λ z. omega (arith, table_some bits size form))) (le-ltb _ _ table_bytes))
+      let table = or_from ((clusters == 0) || nat_lt (2 ^ 26) (clusters * 2 ^ bits)) (not (is_place bits f.refcount_table_offset))
+      (or_from (clusters == 0) (nat_lt (2 ^ 26) (clusters * 2 ^ bits)) (ne_eqb _ _ (λ z. omega (arith, table_some bits size form))) (le-ltb _ _ table_bytes))
       (ap not table_place) in
       rw new.fields (or_none (first_of (form_rules 512 f)) (or_else (first_of (feature_rules part f)) (first_of (table_rules f)))
       (no_fault (form_rules 512 f) (refl, (refl, (refl, (refl, (ap not tests.0, (ap not tests.1, tt)))))))

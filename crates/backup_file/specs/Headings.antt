@@ -5,7 +5,7 @@ use Rattle.qc_layout.specs.declared.header.Fields.{Fields}
 use Rattle.qc_layout.specs.declared.header.Header.{Header}
 use Rattle.qc_layout.specs.declared.header.Own.{Own}
 use Rattle.qc_layout.specs.declared.header.Own.TheVariants as owns
-use Rattle.qc_layout.specs.Header.{l1_needed}
+use Rattle.qc_layout.specs.Header.{qcow2_magic, l1_needed}
 use Rattle.qc_layout.specs.Extensions.{backing_kind}
 use Rattle.qc_layout.specs.Disks.{place_of}
 use Rattle.qc_layout.specs.declared.records.Record.{Record}
@@ -19,7 +19,7 @@ use Rattle.backup_file.specs.Layout.{table_clusters, l1_cluster, HasTables}
 -- The numbers of the header of a new image. The name of the file under it has so many bytes, at this place.
 abbrev pub new_fields : ℕ → ℕ → ℕ → ℕ → Fields
 new_fields bits size backing_place backing_length = record {
-  magic = 0x514649fb;
+  magic = qcow2_magic;
   version = 3;
   backing_file_offset = backing_place;
   backing_file_size = backing_length;

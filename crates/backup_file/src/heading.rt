@@ -5,7 +5,7 @@ ghost use Rattle.backup_file.specs.Plans.{IsPlan};
 ghost use Rattle.backup_file.specs.Headings.{IsNewHeader, IsFileOf, format_bytes};
 
 use crate::layout::{Plan, lay_out};
-use qc_layout::{Fields, Header, Own, write_header};
+use qc_layout::{Fields, Header, Own, QCOW_MAGIC, write_header};
 use span_algebra::Bytes;
 use std::alloc::{AllocError, Global};
 
@@ -37,7 +37,7 @@ pub(crate) fn new_header(
     ensures { IsNewHeader plan.now.cluster_bits plan.now.size backing_file_offset backing_file_size own kept.items.items result }
 {
     let fields = Fields {
-        magic: 0x514649fb,
+        magic: QCOW_MAGIC,
         version: 3,
         backing_file_offset,
         backing_file_size,

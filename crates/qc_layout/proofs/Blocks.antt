@@ -1,9 +1,9 @@
 -- Extensions that stand one behind the other, as blocks of bytes.
 use Rattle.std.specs.Int.{w32}
 use Rattle.std.proofs.Common.{rules}
-use Rattle.std.proofs.Common.{◌≡◌, ℕ, ◌+◌, ◌-◌, ◌≤◌, List, [], ◌∷◌, ◌++◌, length, Bool, true, false, Some, None, refl, sym, ap, ◌∙◌, subst, arith, length-append}
-use Rattle.std.specs.Prelude.{not, ◌||◌, ◌==◌, if◌then◌else◌, suc}
-use Rattle.disk_model.specs.Files.{reading, u32_at}
+use Rattle.std.proofs.Common.{◌≡◌, ℕ, ◌+◌, ◌-◌, ◌≤◌, List, [], ◌∷◌, ◌++◌, length, true, false, None, refl, sym, ap, ◌∙◌, subst, arith, length-append}
+use Rattle.std.specs.Prelude.{◌==◌, if◌then◌else◌}
+use Rattle.disk_model.specs.Files.{u32_at}
 use Rattle.disk_model.proofs.Laws.{length-reading, number-reading}
 use Rattle.qc_layout.specs.declared.extension.Extension.{Extension}
 use Rattle.qc_layout.specs.Extensions.{IsEnd, IsExtension, AreExtensions, behind, padded, is_kept, bytes_of, kept_bytes, kept_length, count_of, first_of_kind, bitmaps_kind, own_kind}
@@ -33,17 +33,16 @@ block_stands file end place b is s inside =
       whole = omega arith;
     }
 
-behind_block : (place : ℕ) (b : List ℕ) → IsBlock b → place + length b ≡ behind (as_extension place b)
-behind_block place b is = let long = is.long in omega arith
-
 pub blocks_listed : (file : List ℕ) (end place : ℕ) (bs : List (List ℕ)) → AreBlocks bs → Stands file place (joined bs) → place + length (joined bs) ≤ end →
     IsEnd file end (place + length (joined bs)) → AreExtensions file end place (as_extensions place bs)
 blocks_listed file end place [] are s inside last = let here : place + 0 ≡ place = omega arith in subst (IsEnd file end) here last
 blocks_listed file end place (b ∷ bs) are s inside last =
     let long = length-append b (joined bs) in
-    let same : place + length (b ++ joined bs) ≡ place + length b + length (joined bs) = omega arith in (
+    let same : place + length (b ++ joined bs) ≡ place + length b + length (joined bs) = omega arith in
+    let whole = are.0.long in
+    let next : place + length b ≡ behind (as_extension place b) = omega arith in (
       block_stands file end place b are.0 (stands_left b (joined bs) s) (omega arith),
-      subst (λ (k : ℕ). AreExtensions file end k (as_extensions (place + length b) bs)) (behind_block place b are.0)
+      subst (λ (k : ℕ). AreExtensions file end k (as_extensions (place + length b) bs)) next
           (blocks_listed file end (place + length b) bs are.1 (stands_right b (joined bs) s) (omega arith) (subst (IsEnd file end) same last)),
     )
 
@@ -52,62 +51,43 @@ pub blocks_bytes : (file : List ℕ) (place : ℕ) (bs : List (List ℕ)) → Ar
 blocks_bytes file place [] are s = refl
 blocks_bytes file place (b ∷ bs) are s =
     let rest = blocks_bytes file (place + length b) bs are.1 (stands_right b (joined bs) s) in
-    let this = stands_left b (joined bs) s in
+    let this = (stands_left b (joined bs) s).read in
     let back : place + 8 - 8 ≡ place = omega arith in
     let long = are.0.long in
-    let bytes : reading file (place + 8 - 8) (8 + padded (u32_at b 4)) ≡ b =
-    ap (λ (k : ℕ). reading file k (8 + padded (u32_at b 4))) back ∙ ap (reading file place) (sym long) ∙ this.read in
-    ap (λ (t : Bool). if t then reading file (place + 8 - 8) (8 + padded (u32_at b 4)) ++ kept_bytes file (as_extensions (place + length b) bs) else kept_bytes file (as_extensions (place + length b) bs)) are.0.unknown
-    ∙ ap (λ (l : List ℕ). l ++ kept_bytes file (as_extensions (place + length b) bs)) bytes
-    ∙ ap (λ (l : List ℕ). b ++ l) rest
+    let unknown = are.0.unknown in
+    cc
 
 pub blocks_length : (place : ℕ) (bs : List (List ℕ)) → AreBlocks bs → kept_length (as_extensions place bs) ≡ length (joined bs)
 blocks_length place [] are = refl
 blocks_length place (b ∷ bs) are =
     let rest = blocks_length (place + length b) bs are.1 in
     let long = are.0.long in
+    let unknown = are.0.unknown in
     let both = length-append b (joined bs) in
-    ap (λ (t : Bool). if t then 8 + padded (u32_at b 4) + kept_length (as_extensions (place + length b) bs) else kept_length (as_extensions (place + length b) bs)) are.0.unknown
-    ∙ omega arith
+    grind arith
 
--- none is of a known kind
-record IsNoKnown (kind : ℕ) : Type 0 where
-  pub no_bitmaps : (kind == bitmaps_kind) ≡ false
-  pub no_own : (kind == own_kind) ≡ false
+-- Others than bitmaps and this project's own.
+pub record AreOthers (es : List Extension) : Type 0 where
+  pub no_bitmaps : first_of_kind bitmaps_kind es ≡ None
+  pub no_own : first_of_kind own_kind es ≡ None
+  pub count_bitmaps : count_of bitmaps_kind es ≡ 0
+  pub count_own : count_of own_kind es ≡ 0
 
-four_tests : (a b c d : Bool) → not (a || b || c || d) ≡ true → (c ≡ false) × (d ≡ false)
-four_tests true b c d h = absurd cc
-four_tests false true c d h = absurd cc
-four_tests false false true d h = absurd cc
-four_tests false false false true h = absurd cc
-four_tests false false false false h = (refl, refl)
-
-no_known : (b : List ℕ) → IsBlock b → IsNoKnown (u32_at b 0)
+no_known : (b : List ℕ) → IsBlock b → ((u32_at b 0 == bitmaps_kind) ≡ false) × ((u32_at b 0 == own_kind) ≡ false)
 no_known b is = search rules
 
-pub blocks_no_bitmaps : (place : ℕ) (bs : List (List ℕ)) → AreBlocks bs → first_of_kind bitmaps_kind (as_extensions place bs) ≡ None
-blocks_no_bitmaps place [] are = refl
-blocks_no_bitmaps place (b ∷ bs) are =
-    ap (λ (t : Bool). if t then Some (as_extension place b) else first_of_kind bitmaps_kind (as_extensions (place + length b) bs)) (no_known b are.0).no_bitmaps
-    ∙ blocks_no_bitmaps (place + length b) bs are.1
-
-pub blocks_no_own : (place : ℕ) (bs : List (List ℕ)) → AreBlocks bs → first_of_kind own_kind (as_extensions place bs) ≡ None
-blocks_no_own place [] are = refl
-blocks_no_own place (b ∷ bs) are =
-    ap (λ (t : Bool). if t then Some (as_extension place b) else first_of_kind own_kind (as_extensions (place + length b) bs)) (no_known b are.0).no_own
-    ∙ blocks_no_own (place + length b) bs are.1
-
-pub blocks_count_bitmaps : (place : ℕ) (bs : List (List ℕ)) → AreBlocks bs → count_of bitmaps_kind (as_extensions place bs) ≡ 0
-blocks_count_bitmaps place [] are = refl
-blocks_count_bitmaps place (b ∷ bs) are =
-    ap (λ (t : Bool). if t then suc (count_of bitmaps_kind (as_extensions (place + length b) bs)) else count_of bitmaps_kind (as_extensions (place + length b) bs)) (no_known b are.0).no_bitmaps
-    ∙ blocks_count_bitmaps (place + length b) bs are.1
-
-pub blocks_count_own : (place : ℕ) (bs : List (List ℕ)) → AreBlocks bs → count_of own_kind (as_extensions place bs) ≡ 0
-blocks_count_own place [] are = refl
-blocks_count_own place (b ∷ bs) are =
-    ap (λ (t : Bool). if t then suc (count_of own_kind (as_extensions (place + length b) bs)) else count_of own_kind (as_extensions (place + length b) bs)) (no_known b are.0).no_own
-    ∙ blocks_count_own (place + length b) bs are.1
+pub blocks_others : (place : ℕ) (bs : List (List ℕ)) → AreBlocks bs → AreOthers (as_extensions place bs)
+blocks_others place [] are = record { no_bitmaps = refl; no_own = refl; count_bitmaps = refl; count_own = refl }
+blocks_others place (b ∷ bs) are =
+    let rest = blocks_others (place + length b) bs are.1 in
+    let no = no_known b are.0 in
+    let bitmaps = no.0 in
+    let own = no.1 in
+    let a = rest.no_bitmaps in
+    let c = rest.no_own in
+    let d = rest.count_bitmaps in
+    let e = rest.count_own in
+    record { no_bitmaps = cc; no_own = cc; count_bitmaps = cc; count_own = cc }
 
 -- ---- and back
 
@@ -130,28 +110,21 @@ is_block file end from e is kept =
       unknown = ap is_unknown kind ∙ kept;
     }
 
-put_front : (t : Bool) (b : List ℕ) (bs : List (List ℕ)) → (t ≡ true → IsBlock b) → AreBlocks bs → AreBlocks (if t then b ∷ bs else bs)
-put_front true b bs is are = (is refl, are)
-put_front false b bs is are = are
-
 pub are_blocks : (file : List ℕ) (end from : ℕ) (es : List Extension) → AreExtensions file end from es → AreBlocks (blocks_of file es)
 are_blocks file end from [] listed = tt
 are_blocks file end from (e ∷ es) listed =
-    put_front (is_kept e) (bytes_of file e) (blocks_of file es) (is_block file end from e listed.0) (are_blocks file end (behind e) es listed.1)
-
-join_front : (t : Bool) (b : List ℕ) (bs : List (List ℕ)) (l : List ℕ) → l ≡ joined bs → (if t then b ++ l else l) ≡ joined (if t then b ∷ bs else bs)
-join_front true b bs l is = ap (λ (k : List ℕ). b ++ k) is
-join_front false b bs l is = is
+    let this = is_block file end from e listed.0 in
+    let rest = are_blocks file end (behind e) es listed.1 in
+    search rules
 
 pub kept_joined : (file : List ℕ) (es : List Extension) → kept_bytes file es ≡ joined (blocks_of file es)
 kept_joined file [] = refl
-kept_joined file (e ∷ es) = join_front (is_kept e) (bytes_of file e) (blocks_of file es) (kept_bytes file es) (kept_joined file es)
-
-long_front : (t : Bool) (b l : List ℕ) (n m : ℕ) → length b ≡ n → length l ≡ m → length (if t then b ++ l else l) ≡ (if t then n + m else m)
-long_front true b l n m p q = length-append b l ∙ omega arith
-long_front false b l n m p q = q
+kept_joined file (e ∷ es) = let rest = kept_joined file es in search rules
 
 pub kept_long : (file : List ℕ) (es : List Extension) → length (kept_bytes file es) ≡ kept_length es
 kept_long file [] = refl
 kept_long file (e ∷ es) =
-    long_front (is_kept e) (bytes_of file e) (kept_bytes file es) (8 + padded e.length) (kept_length es) (length-reading file (e.place - 8) (8 + padded e.length)) (kept_long file es)
+    let rest = kept_long file es in
+    let long = length-reading file (e.place - 8) (8 + padded e.length) in
+    let both = length-append (bytes_of file e) (kept_bytes file es) in
+    grind arith

@@ -1,50 +1,11 @@
--- The laws that the layers above cite, each with what it says.
+-- The laws that the layers above cite, by topic.
 
--- ---- a header is read in one way
-
--- one list of extensions at most stands in a place
-pub use Rattle.qc_layout.proofs.Listing.{one_listing}
--- and in a file
-pub use Rattle.qc_layout.proofs.HeaderLaws.{one_in}
--- a file is refused for one fault at most
-pub use Rattle.qc_layout.proofs.HeaderLaws.{one_fault}
--- a file that spells a header is not refused
-pub use Rattle.qc_layout.proofs.HeaderLaws.{fault_or_header}
--- a file spells one header at most
-pub use Rattle.qc_layout.proofs.HeaderLaws.{one_header}
--- ---- from a file's first bytes, as many as its header takes
-
--- files that begin alike do so either way round
-pub use Rattle.qc_layout.proofs.Starts.{alike_back}
--- they have the same numbers
-pub use Rattle.qc_layout.proofs.Starts.{alike_fields}
--- a header of the one is a header of the other
-pub use Rattle.qc_layout.proofs.Starts.{header_from_start}
--- and a fault of the one is a fault of the other
-pub use Rattle.qc_layout.proofs.Starts.{fault_from_start}
--- and the rules that the one passes the other passes
-pub use Rattle.qc_layout.proofs.Starts.{passes_from_start}
--- and the one is read as what the other is
-pub use Rattle.qc_layout.proofs.Starts.{read_as_from_start}
--- a file begins as its first bytes do, as many as its header takes
-pub use Rattle.qc_layout.proofs.Starts.{begins}
--- the first 24 say how many that are
-pub use Rattle.qc_layout.proofs.Starts.{start_same}
--- ---- where the rules pass
-
--- what the rules of a header's numbers leave: its length and its cluster bits
-pub use Rattle.qc_layout.proofs.Passing.{Passes, numbers_pass}
--- each rule of a list passed
-pub use Rattle.qc_layout.proofs.Passing.{AllPass, all_pass}
--- extensions stand in the first 65536 bytes
-pub use Rattle.qc_layout.proofs.Passing.{listing_near}
--- ---- the form of image that is replayed
-
--- a file of this form that stands for a disk does so in this form
-pub use Rattle.qc_layout.proofs.FirstForms.{standing_in_form}
--- and one that does so in this form stands for the disk, if it passes the rules of a header
-pub use Rattle.qc_layout.proofs.FirstForms.{standing_by_format}
--- in its first cluster neither a table nor a stored cluster is
-pub use Rattle.qc_layout.proofs.FirstForms.{first_cluster}
--- a file that has the same first cluster begins alike
-pub use Rattle.qc_layout.proofs.FirstForms.{first_alike}
+-- a header is read in one way: a file is refused for one fault at most, for none if it spells a header, and spells one at most
+pub use Rattle.qc_layout.proofs.HeaderLaws.{one_fault, fault_or_header, one_header}
+-- files that begin alike do so either way round; a header, a fault and the rules passed are the same, and as what they are read
+pub use Rattle.qc_layout.proofs.Starts.{alike_back, header_from_start, fault_from_start, passes_from_start, read_as_from_start}
+-- a file begins as its first bytes do, as many as its header takes, and the first 24 say how many that are
+pub use Rattle.qc_layout.proofs.Starts.{begins, start_same}
+-- A file of the form that is replayed that stands for a disk does so in this form, and the other way round if it passes the rules of
+-- a header. Its first cluster has neither a table nor a stored cluster, and a file that has the same begins alike.
+pub use Rattle.qc_layout.proofs.FirstForms.{standing_in_form, standing_by_format, first_cluster, first_alike}

@@ -1,61 +1,15 @@
 -- Words of the second-level table, written and read again.
 use Rattle.std.proofs.Common.{rules}
-use Rattle.std.proofs.Common.{◌≡◌, ℕ, ◌+◌, ◌*◌, ◌/◌, ◌%◌, ◌^◌, ◌<◌, Bool, true, false, Result, Ok, Err, refl, sym, ap, ◌∙◌, subst, arith}
-use Rattle.std.specs.Prelude.{◌==◌, if◌then◌else◌}
+use Rattle.std.proofs.Common.{◌≡◌, ℕ, ◌+◌, ◌*◌, ◌/◌, ◌%◌, ◌^◌, ◌<◌, Ok, ap, ◌∙◌, subst, arith}
 use Rattle.std.specs.Int.Bits.{bit_or, or_shifted_r}
 use Rattle.std.proofs.lemmas.Nat.{or_shifted}
-use Rattle.qc_layout.specs.declared.entry.EntryFault.{EntryFault}
-use Rattle.qc_layout.specs.declared.entry.EntryFault.TheVariants.{Reserved, Misaligned}
-use Rattle.qc_layout.specs.declared.entry.L2Entry.{L2Entry}
-use Rattle.qc_layout.specs.declared.entry.L2Entry.TheVariants.{Hole, Zero, Stored, Compressed}
-use Rattle.qc_layout.specs.Entries.{offset_in, l2_of, IsOffset}
-
--- what the tests of an entry give
-abbrev pub told : (compressed plain aligned none zeros : Bool) → ℕ → Result L2Entry EntryFault
-told compressed plain aligned none zeros o =
-    if compressed then Ok Compressed
-    else if plain then (if aligned then Ok (if none then Hole else if zeros then Zero o else Stored o) else Err Misaligned)
-    else Err Reserved
-
-pub record IsStored (compressed plain aligned none zeros : Bool) (o p : ℕ) : Type 0 where
-  pub not_compressed : compressed ≡ false
-  pub is_plain : plain ≡ true
-  pub is_aligned : aligned ≡ true
-  pub some : none ≡ false
-  pub not_zeros : zeros ≡ false
-  pub offset : o ≡ p
-
-pub told_stored : (a b c d e : Bool) (o p : ℕ) → told a b c d e o ≡ Ok (Stored p) → IsStored a b c d e o p
-told_stored true b c d e o p h = absurd cc
-told_stored false false c d e o p h = absurd cc
-told_stored false true false d e o p h = absurd cc
-told_stored false true true true e o p h = absurd cc
-told_stored false true true false true o p h = absurd cc
-told_stored false true true false false o p h = record { not_compressed = refl; is_plain = refl; is_aligned = refl; some = refl; not_zeros = refl; offset = cc }
-
-pub record IsKept (compressed plain aligned none zeros : Bool) (o p : ℕ) : Type 0 where
-  pub not_compressed : compressed ≡ false
-  pub is_plain : plain ≡ true
-  pub is_aligned : aligned ≡ true
-  pub some : none ≡ false
-  pub zeros_set : zeros ≡ true
-  pub offset : o ≡ p
-
-told_zero : (a b c d e : Bool) (o p : ℕ) → told a b c d e o ≡ Ok (Zero p) → IsKept a b c d e o p
-told_zero true b c d e o p h = absurd cc
-told_zero false false c d e o p h = absurd cc
-told_zero false true false d e o p h = absurd cc
-told_zero false true true true e o p h = absurd cc
-told_zero false true true false false o p h = absurd cc
-told_zero false true true false true o p h = record { not_compressed = refl; is_plain = refl; is_aligned = refl; some = refl; zeros_set = refl; offset = cc }
+use Rattle.qc_layout.specs.declared.entry.L2Entry.TheVariants.{Zero, Stored}
+use Rattle.qc_layout.specs.Entries.{l2_of, IsOffset}
 
 -- an aligned offset that an entry can hold
 pub record IsPlace (bits offset : ℕ) : Type 0 where
   pub is : IsOffset offset
   pub aligned : offset % 2 ^ bits ≡ 0
-
-place_in : (bits word : ℕ) → (offset_in word % 2 ^ bits == 0) ≡ true → (offset_in word == 0) ≡ false → IsPlace bits (offset_in word)
-place_in bits word whole some = search rules
 
 pub stored_place : (bits word offset : ℕ) → l2_of bits word ≡ Ok (Stored offset) → IsPlace bits offset
 unfolding l2_of
@@ -64,14 +18,6 @@ stored_place bits word offset h = search rules
 pub zero_place : (bits word offset : ℕ) → l2_of bits word ≡ Ok (Zero offset) → IsPlace bits offset
 unfolding l2_of
 zero_place bits word offset h = search rules
-
--- the tests of a word with this offset, bit 63, and bit 0 or not
-offset_again : (o low : ℕ) → IsOffset o → low < 512 → offset_in (o + low + 2 ^ 63) ≡ o
-offset_again o low is small = let w = is.whole in let h = is.small in omega arith
-
-read_as : (bits o low : ℕ) (zeros : Bool) → IsPlace bits o → low < 2 → (low == 1) ≡ zeros → l2_of bits (o + low + 2 ^ 63) ≡ told false true true false zeros o
-unfolding l2_of
-read_as bits o low zeros place small is = search rules
 
 -- the written word as a sum
 pub stored_sum : (o : ℕ) → o < 2 ^ 56 → bit_or o (2 ^ 63) ≡ o + 2 ^ 63
@@ -84,10 +30,9 @@ zero_sum o whole small =
     ap (λ (k : ℕ). bit_or k (2 ^ 63)) low ∙ omega (arith, or_shifted_r 1 63 (o + 1) (omega arith))
 
 pub stored_reads : (bits o : ℕ) → IsPlace bits o → l2_of bits (bit_or o (2 ^ 63)) ≡ Ok (Stored o)
-stored_reads bits o place =
-    let sum : o + 0 + 2 ^ 63 ≡ bit_or o (2 ^ 63) = omega (arith, stored_sum o place.is.small) in
-    subst (λ (n : ℕ). l2_of bits n ≡ Ok (Stored o)) sum (read_as bits o 0 false place (omega arith) refl)
+unfolding l2_of
+stored_reads bits o place = rw (stored_sum o place.is.small) (search rules)
 
 pub zero_reads : (bits o : ℕ) → IsPlace bits o → l2_of bits (bit_or (bit_or o 1) (2 ^ 63)) ≡ Ok (Zero o)
-zero_reads bits o place =
-    subst (λ (n : ℕ). l2_of bits n ≡ Ok (Zero o)) (sym (zero_sum o place.is.whole place.is.small)) (read_as bits o 1 true place (omega arith) refl)
+unfolding l2_of
+zero_reads bits o place = rw (zero_sum o place.is.whole place.is.small) (search rules)

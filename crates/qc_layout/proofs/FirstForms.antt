@@ -1,8 +1,7 @@
 -- The one form of image that `replay` takes, by the format: a file of that form stands in it for the disk that it stands for.
 use Rattle.std.specs.Int.{w64, w32}
 use Rattle.std.proofs.Common.{rules}
-use Rattle.std.proofs.Common.{◌≡◌, ◌≢◌, inl, inr, ⊎_elim, ℕ, ◌+◌, ◌*◌, ◌/◌, ◌%◌, ◌^◌, ◌<◌, ◌≤◌, max, List, length, Bool, Option, Some, None, Result, Ok, refl, sym, ap, ◌∙◌, subst, arith}
-use Rattle.std.specs.Prelude.{◌==◌, if◌then◌else◌}
+use Rattle.std.proofs.Common.{◌≡◌, ◌≢◌, inl, inr, ℕ, ◌+◌, ◌*◌, ◌/◌, ◌%◌, ◌^◌, ◌<◌, ◌≤◌, max, List, length, Option, Some, None, Result, Ok, refl, sym, ap, ◌∙◌, subst, arith}
 use Rattle.std.proofs.lemmas.Bool.{ne_eqb, cases_eq}
 use Rattle.std.proofs.lemmas.List.FromFn.{length-map-range_with_len, get_or-map-range_with_len}
 use Rattle.disk_model.specs.Files.{byte, u64_at}
@@ -17,8 +16,6 @@ use Rattle.qc_layout.specs.Extensions.{list_end}
 use Rattle.qc_layout.specs.Disks.{Passes, Stands, ReadsAs, bits_of, words_in, entry_under, entry_at}
 use Rattle.qc_layout.specs.FirstForm.{host_of, table_offset, l1_offset, clusters_of, disk_byte, disk_of, disk_size, IsPlainEntry, IsFirstForm, StandsInFirstForm, IsRest}
 use Rattle.qc_layout.specs.Laws.{BeginAlike, start_length}
-use Rattle.qc_layout.proofs.EntryLaws.{stored_place}
-use Rattle.qc_layout.proofs.PlainLaws.{l1_plain, l2_plain, l2_hole}
 
 -- ---- the disk, byte by byte
 
@@ -68,49 +65,30 @@ first_l1 file = sym (number-reading w64 file 0 104 40 (omega arith))
 
 -- the first level names no table, or one
 l1_at_none : (word : ℕ) → IsPlainEntry word → offset_in word ≡ 0 → l1_of 12 word ≡ Ok None
-l1_at_none word plain none =
-    l1_plain 12 word plain (ap (λ (k : ℕ). k % 4096) none)
-    ∙ ap (λ (t : Bool). let r : Result (Option ℕ) EntryFault = Ok (if t then None else Some (offset_in word)) in r) (ap (λ (k : ℕ). k == 0) none)
+unfolding l1_of
+l1_at_none word plain none = search rules
 
 l1_at_some : (word : ℕ) → IsPlainEntry word → offset_in word ≢ 0 → offset_in word % 4096 ≡ 0 → l1_of 12 word ≡ Ok (Some (offset_in word))
-l1_at_some word plain some aligned =
-    l1_plain 12 word plain aligned
-    ∙ ap (λ (t : Bool). let r : Result (Option ℕ) EntryFault = Ok (if t then None else Some (offset_in word)) in r) (ne_eqb (offset_in word) 0 some)
+unfolding l1_of
+l1_at_some word plain some aligned = search rules
 
 -- the second level names no cluster, or one
 l2_at_none : (word : ℕ) → IsPlainEntry word → offset_in word ≡ 0 → l2_of 12 word ≡ Ok Hole
-l2_at_none word plain none = ⊎_elim
-    (λ (hole : l2_of 12 word ≡ Ok Hole). hole)
-    (λ (stored : l2_of 12 word ≡ Ok (Stored (offset_in word))). let some = (stored_place 12 word (offset_in word) stored).is.some in absurd (omega arith))
-    (l2_plain 12 word plain (ap (λ (k : ℕ). k % 4096) none))
+unfolding l2_of
+l2_at_none word plain none = search rules
 
 l2_at_some : (word : ℕ) → IsPlainEntry word → offset_in word ≢ 0 → offset_in word % 4096 ≡ 0 → l2_of 12 word ≡ Ok (Stored (offset_in word))
-l2_at_some word plain some aligned = ⊎_elim
-    (λ (hole : l2_of 12 word ≡ Ok Hole). absurd (some (l2_hole 12 word hole)))
-    (λ (stored : l2_of 12 word ≡ Ok (Stored (offset_in word))). stored)
-    (l2_plain 12 word plain aligned)
+unfolding l2_of
+l2_at_some word plain some aligned = search rules
 
 -- ---- what the entries say of a cluster
 
--- the same, with the numbers of a header by themselves
-abbrev entry_with : List ℕ → ℕ → ℕ → ℕ → Result L2Entry EntryFault
-entry_with file bits l1 n = entry_under file (l1_of bits (u64_at file (l1 + 8 * (n / words_in bits)))) (n % words_in bits)
-
-entry_numbers : (file : List ℕ) (n : ℕ) → entry_at file n ≡ entry_with file (bits_of file) (fields_of file).l1_table_offset n
-unfolding entry_at
-entry_numbers file n = refl
-
 -- the one entry of the first level counts 512 clusters
-entry_512 : (file : List ℕ) (l1 n : ℕ) → n < 512 → entry_with file 12 l1 n ≡ entry_under file (l1_of 12 (u64_at file l1)) n
-unfolding words_in
-entry_512 file l1 n few = search rules
-
 first_entry : (file : List ℕ) (n : ℕ) → IsFirstForm file → n < clusters_of file → entry_at file n ≡ entry_under file (l1_of 12 (u64_at file (l1_offset file))) n
+unfolding entry_at words_in
 first_entry file n form below =
-    entry_numbers file n
-    ∙ ap (λ (b : ℕ). entry_with file b (fields_of file).l1_table_offset n) (first_bits file form)
-    ∙ ap (λ (o : ℕ). entry_with file 12 o n) (first_l1 file)
-    ∙ entry_512 file (l1_offset file) n (clusters_below file n form below)
+    let few = clusters_below file n form below in
+    rw (first_bits file form, first_l1 file) (search rules)
 
 -- without a table a cluster is a hole
 entry_no_table : (file : List ℕ) (n : ℕ) → IsFirstForm file → n < clusters_of file → table_offset file ≡ 0 → entry_at file n ≡ Ok Hole
@@ -145,30 +123,14 @@ entry_stored file n form below stored =
 
 -- ---- a byte of the disk, as the entries give it
 
--- which cluster it is in
-in_disk : (file : List ℕ) (x : ℕ) → x < disk_size file → x / 4096 < clusters_of file
-in_disk file x inside = omega arith
-
--- what the entries give is the byte
-pub read_byte : (file : List ℕ) (x b : ℕ) → IsFirstForm file → x < disk_size file → ReadsAs file (entry_at file (x / 4096)) (x % 4096) b → b ≡ disk_byte file x
-read_byte file x b form inside reads =
-    let below = in_disk file x inside in
+-- what the entries give is the byte, and the byte is what they give
+byte_as : (file : List ℕ) (x b : ℕ) → IsFirstForm file → x < disk_size file
+    → (ReadsAs file (entry_at file (x / 4096)) (x % 4096) b → b ≡ disk_byte file x) × (b ≡ disk_byte file x → ReadsAs file (entry_at file (x / 4096)) (x % 4096) b)
+byte_as file x b form inside =
+    let below : x / 4096 < clusters_of file = omega arith in
     elim (cases_eq (host_of file (x / 4096)) 0) [
-      | inl none ↦
-          let zero : b ≡ 0 = subst (λ (e : Result L2Entry EntryFault). ReadsAs file e (x % 4096) b) (entry_hole file (x / 4096) form below none) reads in
-          zero ∙ sym (hole_byte file x none)
-      | inr some ↦
-          let there : b ≡ byte file (host_of file (x / 4096) + x % 4096) = subst (λ (e : Result L2Entry EntryFault). ReadsAs file e (x % 4096) b) (entry_stored file (x / 4096) form below some) reads in
-          there ∙ sym (stored_byte file x some)
-    ]
-
--- and the byte is what they give
-pub reads_byte : (file : List ℕ) (x b : ℕ) → IsFirstForm file → x < disk_size file → b ≡ disk_byte file x → ReadsAs file (entry_at file (x / 4096)) (x % 4096) b
-reads_byte file x b form inside is =
-    let below = in_disk file x inside in
-    elim (cases_eq (host_of file (x / 4096)) 0) [
-      | inl none ↦ subst (λ (e : Result L2Entry EntryFault). ReadsAs file e (x % 4096) b) (sym (entry_hole file (x / 4096) form below none)) (is ∙ hole_byte file x none)
-      | inr some ↦ subst (λ (e : Result L2Entry EntryFault). ReadsAs file e (x % 4096) b) (sym (entry_stored file (x / 4096) form below some)) (is ∙ stored_byte file x some)
+      | inl none ↦ rw (entry_hole file (x / 4096) form below none, hole_byte file x none) (λ is. is, λ is. is)
+      | inr some ↦ rw (entry_stored file (x / 4096) form below some, stored_byte file x some) (λ is. is, λ is. is)
     ]
 
 -- ---- what it stands for
@@ -186,7 +148,7 @@ standing_in_form part file disk stands form =
       bytes = same_file (disk_of file) disk (length-disk_of file ∙ sym long) (λ x lt.
           let inside : x < disk_size file = omega (arith, length-disk_of file) in
           let reads = subst (λ (bits : ℕ). ReadsWith file bits x (byte disk x)) (first_bits file form) (stands.bytes x (omega (arith, long))) in
-          byte_of_disk file x inside ∙ sym (read_byte file x (byte disk x) form inside reads));
+          byte_of_disk file x inside ∙ sym ((byte_as file x (byte disk x) form inside).0 reads));
     }
 
 -- and one that does so in this form stands for the disk, if it passes the rules of a header.
@@ -200,7 +162,7 @@ standing_by_format part file disk passes stands =
       bytes = λ x lt.
           let inside : x < disk_size file = omega (arith, long) in
           let is : byte disk x ≡ disk_byte file x = sym (ap (λ (d : List ℕ). byte d x) stands.bytes) ∙ byte_of_disk file x inside in
-          subst (λ (bits : ℕ). ReadsWith file bits x (byte disk x)) (sym (first_bits file form)) (reads_byte file x (byte disk x) form inside is);
+          subst (λ (bits : ℕ). ReadsWith file bits x (byte disk x)) (sym (first_bits file form)) ((byte_as file x (byte disk x) form inside).1 is);
     }
 
 -- ---- its first cluster

@@ -1,7 +1,8 @@
 -- This project's extension and that of bitmaps, in front of others, as they are written.
-use Rattle.std.proofs.Common.{◌≡◌, ◌≢◌, ℕ, ◌+◌, ◌^◌, ◌<◌, ◌≤◌, List, ◌∷◌, ◌++◌, length, Bool, false, Option, Some, None, refl, sym, ap, ◌∙◌, subst, arith, length-append}
-use Rattle.std.specs.Prelude.{not, ◌||◌, nat_lt, ◌==◌}
-use Rattle.std.proofs.lemmas.Bool.{le-ltb, ne_eqb}
+use Rattle.std.proofs.Common.{rules}
+use Rattle.std.proofs.Common.{◌≡◌, ◌≢◌, ℕ, ◌+◌, ◌^◌, ◌<◌, ◌≤◌, List, ◌∷◌, ◌++◌, length, false, Option, Some, None, refl, sym, ap, ◌∙◌, subst, arith, length-append}
+use Rattle.std.proofs.lemmas.Bool.Decides.{nat_tests}
+use Rattle.std.proofs.lemmas.Bool.{le-ltb}
 use Rattle.disk_model.specs.Files.{reading, u32_at, u64_at}
 use Rattle.qc_layout.specs.declared.extension.Extension.{Extension}
 use Rattle.qc_layout.specs.declared.header.DirPlace.{DirPlace}
@@ -9,12 +10,10 @@ use Rattle.qc_layout.specs.declared.header.Own.{Own}
 use Rattle.qc_layout.specs.declared.header.Own.TheVariants as owns
 use Rattle.qc_layout.specs.declared.header.Part.{Part}
 use Rattle.qc_layout.specs.declared.header.Part.TheVariants as parts
-use Rattle.qc_layout.specs.Header.{is_place}
 use Rattle.qc_layout.specs.Extensions.{IsExtension, AreExtensions, kept_bytes, kept_length, count_of, first_of_kind, bitmaps_kind, own_kind, own_in, bitmaps_in, is_bad_own, is_bad_bitmaps, is_there}
 use Rattle.qc_layout.specs.Spelling.{words_bytes, head_words, source_words, bitmaps_words, own_bytes, bitmaps_bytes, IsSmallOwn, AreSmallBitmaps, AreBitmaps, IsOwnOf, has_bitmaps}
-use Rattle.qc_layout.proofs.Standing.{Stands, stands_at, stands_as, stands_left, stands_right}
+use Rattle.qc_layout.proofs.Standing.{Stands, stands_at, stands_left, stands_right}
 use Rattle.qc_layout.proofs.WrittenNumbers.{words_there, length-words}
-use Rattle.qc_layout.proofs.Words.{no_own_bytes, no_bitmaps_bytes}
 
 -- one in front, if it is there
 abbrev pub in_front : Option Extension → List Extension → List Extension
@@ -52,40 +51,31 @@ own_extension place owns.Absent = None
 own_extension place (owns.Source disk epoch spans_offset spans_length) = Some (extension_at own_kind place 40)
 own_extension place (owns.Target bytes) = Some (extension_at own_kind place 64)
 
-source_are : (disk : List ℕ) (epoch spans_offset spans_length : ℕ) →
-    own_bytes (owns.Source disk epoch spans_offset spans_length) ≡ words_bytes (head_words own_kind 40) ++ (disk ++ words_bytes (source_words epoch spans_offset spans_length))
-unfolding own_bytes
-source_are disk epoch spans_offset spans_length = refl
-
-target_are : (bytes : List ℕ) → own_bytes (owns.Target bytes) ≡ words_bytes (head_words own_kind 64) ++ bytes
-unfolding own_bytes
-target_are bytes = refl
-
 pub length-source : (disk : List ℕ) (epoch spans_offset spans_length : ℕ) → length disk ≡ 16 → length (own_bytes (owns.Source disk epoch spans_offset spans_length)) ≡ 48
-length-source disk epoch spans_offset spans_length long =
-    ap length (source_are disk epoch spans_offset spans_length)
-    ∙ omega (arith, length-append {A = ℕ}, length-words)
+unfolding own_bytes
+length-source disk epoch spans_offset spans_length long = omega (arith, length-append {A = ℕ}, length-words)
 
 pub length-target : (bytes : List ℕ) → length bytes ≡ 64 → length (own_bytes (owns.Target bytes)) ≡ 72
-length-target bytes long =
-    ap length (target_are bytes) ∙ omega (arith, length-append {A = ℕ}, length-words)
+unfolding own_bytes
+length-target bytes long = omega (arith, length-append {A = ℕ}, length-words)
+
+-- which form it has
+source_of : (part : Part) (disk : List ℕ) (epoch spans_offset spans_length place : ℕ) → IsOwnOf part (owns.Source disk epoch spans_offset spans_length) → (length disk ≡ 16) × (is_bad_own part (Some (extension_at own_kind place 40)) ≡ false)
+source_of part disk epoch spans_offset spans_length place of = search rules
+
+target_long : (part : Part) (bytes : List ℕ) → IsOwnOf part (owns.Target bytes) → length bytes ≡ 64
+target_long part bytes of = search rules
+
+target_of : (part : Part) (bytes : List ℕ) (place : ℕ) → IsOwnOf part (owns.Target bytes) → place + 72 ≤ 512 → is_bad_own part (Some (extension_at own_kind place 64)) ≡ false
+target_of parts.Target bytes place of sector = le-ltb 512 (place + 8 + 64) (omega arith)
+target_of parts.Source bytes place of sector = absurd of
+target_of parts.Foreign bytes place of sector = absurd of
 
 pub own_short : (part : Part) (own : Own) → IsOwnOf part own → length (own_bytes own) ≤ 72
-own_short part owns.Absent of = omega (arith, ap length no_own_bytes)
-own_short parts.Source (owns.Source disk epoch spans_offset spans_length) of = omega (arith, length-source disk epoch spans_offset spans_length of)
-own_short parts.Foreign (owns.Source disk epoch spans_offset spans_length) of = omega (arith, length-source disk epoch spans_offset spans_length of)
-own_short parts.Target (owns.Source disk epoch spans_offset spans_length) of = absurd of
-own_short parts.Source (owns.Target bytes) of = absurd of
-own_short parts.Foreign (owns.Target bytes) of = absurd of
-own_short parts.Target (owns.Target bytes) of = omega (arith, length-target bytes of)
-
--- it is what stands there
-pub source_stands : {file : List ℕ} {place : ℕ} (end : ℕ) (disk : List ℕ) (epoch spans_offset spans_length : ℕ) → Stands file place (own_bytes (owns.Source disk epoch spans_offset spans_length)) → place + 48 ≤ end
-    → IsExtension file end place (extension_at own_kind place 40)
-source_stands end disk epoch spans_offset spans_length s inside = head_stands end own_kind 40 _ (stands_as (source_are disk epoch spans_offset spans_length) s) (omega arith) (λ z. omega arith) (omega arith) (omega arith)
-
-pub target_stands : {file : List ℕ} {place : ℕ} (end : ℕ) (bytes : List ℕ) → Stands file place (own_bytes (owns.Target bytes)) → place + 72 ≤ end → IsExtension file end place (extension_at own_kind place 64)
-target_stands end bytes s inside = head_stands end own_kind 64 _ (stands_as (target_are bytes) s) (omega arith) (λ z. omega arith) (omega arith) (omega arith)
+unfolding own_bytes
+own_short part owns.Absent of = omega arith
+own_short part (owns.Source disk epoch spans_offset spans_length) of = omega (arith, length-source disk epoch spans_offset spans_length (source_of part disk epoch spans_offset spans_length 0 of).0)
+own_short part (owns.Target bytes) of = omega (arith, length-target bytes (target_long part bytes of))
 
 -- what its extension says again
 pub record SaysOwn (part : Part) (file : List ℕ) (end place : ℕ) (own : Own) (es : List Extension) : Type 0 where
@@ -93,93 +83,48 @@ pub record SaysOwn (part : Part) (file : List ℕ) (end place : ℕ) (own : Own)
   pub says : own ≡ own_in file (own_extension place own)
   pub well : is_bad_own part (own_extension place own) ≡ false
 
-two_ok : (a b : ℕ) → a ≤ b → nat_lt b a ≡ false
-two_ok a b h = le-ltb b a h
-
-source_says : (part : Part) (file : List ℕ) (end place : ℕ) (disk : List ℕ) (epoch spans_offset spans_length : ℕ) (es : List Extension) →
-    length disk ≡ 16 → IsSmallOwn (owns.Source disk epoch spans_offset spans_length) → Stands file place (own_bytes (owns.Source disk epoch spans_offset spans_length)) →
-    place + 48 ≤ end → AreExtensions file end (place + 48) es → is_bad_own part (own_extension place (owns.Source disk epoch spans_offset spans_length)) ≡ false →
-    SaysOwn part file end place (owns.Source disk epoch spans_offset spans_length) es
-source_says part file end place disk epoch spans_offset spans_length es long small s inside listed well =
-    let numbers = words_bytes (source_words epoch spans_offset spans_length) in
-    let content = content_stands own_kind 40 _ (stands_as (source_are disk epoch spans_offset spans_length) s) in
-    let to : place + 8 + length disk ≡ place + 8 + 16 = omega arith in
-    let there = words_there file (place + 8) 16 (source_words epoch spans_offset spans_length) small (stands_at to (stands_right disk numbers content)) in
-    let is_disk : disk ≡ reading file (place + 8) 16 = sym (stands_left disk numbers content).read ∙ ap (reading file (place + 8)) long in
-    let next : place + 48 ≡ place + 8 + 40 = omega arith in
-    record {
-      listed = (source_stands end disk epoch spans_offset spans_length s inside, subst (λ (k : ℕ). AreExtensions file end k es) next listed);
-      says = cc;
-      well = well;
-    }
-
-target_says : (part : Part) (file : List ℕ) (end place : ℕ) (bytes : List ℕ) (es : List Extension) →
-    length bytes ≡ 64 → Stands file place (own_bytes (owns.Target bytes)) →
-    place + 72 ≤ end → AreExtensions file end (place + 72) es → is_bad_own part (own_extension place (owns.Target bytes)) ≡ false →
-    SaysOwn part file end place (owns.Target bytes) es
-target_says part file end place bytes es long s inside listed well =
-    let content = content_stands own_kind 64 _ (stands_as (target_are bytes) s) in
-    let is_record : bytes ≡ reading file (place + 8) 64 = sym content.read ∙ ap (reading file (place + 8)) long in
-    let next : place + 72 ≡ place + 8 + 64 = omega arith in
-    record { listed = (target_stands end bytes s inside, subst (λ (k : ℕ). AreExtensions file end k es) next listed); says = ap owns.Target is_record; well = well }
-
-absent_says : (part : Part) (file : List ℕ) (end place : ℕ) (es : List Extension) → AreExtensions file end (place + length (own_bytes owns.Absent)) es → SaysOwn part file end place owns.Absent es
-absent_says part file end place es listed =
-    let none = ap length no_own_bytes in
-    let same : place + length (own_bytes owns.Absent) ≡ place = omega arith in
-    record { listed = subst (λ (k : ℕ). AreExtensions file end k es) same listed; says = refl; well = absent_well part }
-  where
-    absent_well : (part : Part) → is_bad_own part None ≡ false
-    absent_well parts.Source = refl
-    absent_well parts.Target = refl
-    absent_well parts.Foreign = refl
-
 pub own_says : (part : Part) (file : List ℕ) (end place : ℕ) (own : Own) (es : List Extension) → IsOwnOf part own → IsSmallOwn own → Stands file place (own_bytes own) →
     place + length (own_bytes own) ≤ end → place + length (own_bytes own) ≤ 512 → AreExtensions file end (place + length (own_bytes own)) es → SaysOwn part file end place own es
-own_says part file end place owns.Absent es of small s inside sector listed = absent_says part file end place es listed
-own_says parts.Source file end place (owns.Source disk epoch spans_offset spans_length) es of small s inside sector listed =
-    let long = length-source disk epoch spans_offset spans_length of in
-    source_says parts.Source file end place disk epoch spans_offset spans_length es of small s (omega arith) (subst (λ (k : ℕ). AreExtensions file end (place + k) es) long listed) refl
-own_says parts.Foreign file end place (owns.Source disk epoch spans_offset spans_length) es of small s inside sector listed =
-    let long = length-source disk epoch spans_offset spans_length of in
-    source_says parts.Foreign file end place disk epoch spans_offset spans_length es of small s (omega arith) (subst (λ (k : ℕ). AreExtensions file end (place + k) es) long listed) refl
-own_says parts.Target file end place (owns.Source disk epoch spans_offset spans_length) es of small s inside sector listed = absurd of
-own_says parts.Source file end place (owns.Target bytes) es of small s inside sector listed = absurd of
-own_says parts.Foreign file end place (owns.Target bytes) es of small s inside sector listed = absurd of
-own_says parts.Target file end place (owns.Target bytes) es of small s inside sector listed =
-    let long = length-target bytes of in
-    target_says parts.Target file end place bytes es of s (omega arith) (subst (λ (k : ℕ). AreExtensions file end (place + k) es) long listed) (two_ok (place + 8 + 64) 512 (omega arith))
+unfolding own_bytes
+own_says part file end place owns.Absent es of small s inside sector listed =
+    let same : place + length (own_bytes owns.Absent) ≡ place = omega arith in
+    record { listed = subst (λ (k : ℕ). AreExtensions file end k es) same listed; says = refl; well = search rules }
+own_says part file end place (owns.Source disk epoch spans_offset spans_length) es of small s inside sector listed =
+    let is = source_of part disk epoch spans_offset spans_length place of in
+    let size = length-source disk epoch spans_offset spans_length is.0 in
+    let long = is.0 in
+    let numbers = words_bytes (source_words epoch spans_offset spans_length) in
+    let content = content_stands own_kind 40 _ s in
+    let there = words_there file (place + 8) 16 (source_words epoch spans_offset spans_length) small (stands_at (omega (arith, long)) (stands_right disk numbers content)) in
+    let is_disk : disk ≡ reading file (place + 8) 16 = sym (stands_left disk numbers content).read ∙ ap (reading file (place + 8)) long in
+    let next : place + length (own_bytes (owns.Source disk epoch spans_offset spans_length)) ≡ place + 8 + 40 = omega (arith, size) in
+    record {
+      listed = (head_stands end own_kind 40 _ s (omega arith) (λ z. omega arith) (omega arith) (omega (arith, size)), subst (λ (k : ℕ). AreExtensions file end k es) next listed);
+      says = cc;
+      well = is.1;
+    }
+own_says part file end place (owns.Target bytes) es of small s inside sector listed =
+    let long = target_long part bytes of in
+    let size = length-target bytes long in
+    let content = content_stands own_kind 64 _ s in
+    let next : place + length (own_bytes (owns.Target bytes)) ≡ place + 8 + 64 = omega (arith, size) in
+    record {
+      listed = (head_stands end own_kind 64 _ s (omega arith) (λ z. omega arith) (omega arith) (omega (arith, size)), subst (λ (k : ℕ). AreExtensions file end k es) next listed);
+      says = ap owns.Target (sym content.read ∙ ap (reading file (place + 8)) long);
+      well = target_of part bytes place of (omega (arith, size));
+    }
 
--- in front of others: what is found of it, and that nothing else changes
-pub own_found : (place : ℕ) (own : Own) (es : List Extension) → first_of_kind own_kind es ≡ None → first_of_kind own_kind (in_front (own_extension place own) es) ≡ own_extension place own
-own_found place owns.Absent es none = none
-own_found place (owns.Source disk epoch spans_offset spans_length) es none = refl
-own_found place (owns.Target bytes) es none = refl
+-- one kind in front of others: what is found of it, and that nothing else changes
+pub record IsFront (file : List ℕ) (kind other : ℕ) (front : Option Extension) (es : List Extension) : Type 0 where
+  pub found : first_of_kind kind es ≡ None → first_of_kind kind (in_front front es) ≡ front
+  pub no_other : first_of_kind other (in_front front es) ≡ first_of_kind other es
+  pub count : count_of kind es ≡ 0 → count_of kind (in_front front es) ≤ 1
+  pub count_other : count_of other (in_front front es) ≡ count_of other es
+  pub kept : kept_bytes file (in_front front es) ≡ kept_bytes file es
+  pub kept_length : kept_length (in_front front es) ≡ kept_length es
 
-pub own_no_bitmaps : (place : ℕ) (own : Own) (es : List Extension) → first_of_kind bitmaps_kind (in_front (own_extension place own) es) ≡ first_of_kind bitmaps_kind es
-own_no_bitmaps place owns.Absent es = refl
-own_no_bitmaps place (owns.Source disk epoch spans_offset spans_length) es = refl
-own_no_bitmaps place (owns.Target bytes) es = refl
-
-pub own_count : (place : ℕ) (own : Own) (es : List Extension) → count_of own_kind es ≡ 0 → count_of own_kind (in_front (own_extension place own) es) ≤ 1
-own_count place owns.Absent es none = omega arith
-own_count place (owns.Source disk epoch spans_offset spans_length) es none = omega arith
-own_count place (owns.Target bytes) es none = omega arith
-
-pub own_count_bitmaps : (place : ℕ) (own : Own) (es : List Extension) → count_of bitmaps_kind (in_front (own_extension place own) es) ≡ count_of bitmaps_kind es
-own_count_bitmaps place owns.Absent es = refl
-own_count_bitmaps place (owns.Source disk epoch spans_offset spans_length) es = refl
-own_count_bitmaps place (owns.Target bytes) es = refl
-
-pub own_kept : (file : List ℕ) (place : ℕ) (own : Own) (es : List Extension) → kept_bytes file (in_front (own_extension place own) es) ≡ kept_bytes file es
-own_kept file place owns.Absent es = refl
-own_kept file place (owns.Source disk epoch spans_offset spans_length) es = refl
-own_kept file place (owns.Target bytes) es = refl
-
-pub own_kept_length : (place : ℕ) (own : Own) (es : List Extension) → kept_length (in_front (own_extension place own) es) ≡ kept_length es
-own_kept_length place owns.Absent es = refl
-own_kept_length place (owns.Source disk epoch spans_offset spans_length) es = refl
-own_kept_length place (owns.Target bytes) es = refl
+pub own_front : (file : List ℕ) (place : ℕ) (own : Own) (es : List Extension) → IsFront file own_kind bitmaps_kind (own_extension place own) es
+own_front file place own es = search rules
 
 -- ---- that of bitmaps
 
@@ -187,12 +132,9 @@ abbrev pub bitmaps_extension : ℕ → Option DirPlace → Option Extension
 bitmaps_extension place None = None
 bitmaps_extension place (Some dir) = Some (extension_at bitmaps_kind place 24)
 
-bitmaps_are : (dir : DirPlace) → bitmaps_bytes (Some dir) ≡ words_bytes (head_words bitmaps_kind 24) ++ words_bytes (bitmaps_words dir)
-unfolding bitmaps_bytes
-bitmaps_are dir = refl
-
 pub length-bitmaps : (dir : DirPlace) → length (bitmaps_bytes (Some dir)) ≡ 32
-length-bitmaps dir = ap length (bitmaps_are dir) ∙ omega (arith, length-append {A = ℕ}, length-words)
+unfolding bitmaps_bytes
+length-bitmaps dir = omega (arith, length-append {A = ℕ}, length-words)
 
 pub record SaysBitmaps (file : List ℕ) (bits end place : ℕ) (bitmaps : Option DirPlace) (es : List Extension) : Type 0 where
   pub listed : AreExtensions file end place (in_front (bitmaps_extension place bitmaps) es)
@@ -201,56 +143,28 @@ pub record SaysBitmaps (file : List ℕ) (bits end place : ℕ) (bitmaps : Optio
 
 pub bitmaps_say : (file : List ℕ) (bits end place : ℕ) (bitmaps : Option DirPlace) (es : List Extension) → AreBitmaps bits bitmaps → AreSmallBitmaps bitmaps → Stands file place (bitmaps_bytes bitmaps) →
     place + length (bitmaps_bytes bitmaps) ≤ end → AreExtensions file end (place + length (bitmaps_bytes bitmaps)) es → SaysBitmaps file bits end place bitmaps es
+unfolding bitmaps_bytes
 bitmaps_say file bits end place None es are small s inside listed =
-    let none = ap length no_bitmaps_bytes in
     let same : place + length (bitmaps_bytes None) ≡ place = omega arith in
     record { listed = subst (λ (k : ℕ). AreExtensions file end k es) same listed; says = refl; well = refl }
 bitmaps_say file bits end place (Some dir) es are small s inside listed =
     let long = length-bitmaps dir in
-    let whole = stands_as (bitmaps_are dir) s in
     let here : place + 8 + 0 ≡ place + 8 = omega arith in
-    let there = words_there file (place + 8) 0 (bitmaps_words dir) small (stands_at (sym here) (content_stands bitmaps_kind 24 _ whole)) in
+    let there = words_there file (place + 8) 0 (bitmaps_words dir) small (stands_at (sym here) (content_stands bitmaps_kind 24 _ s)) in
     let is_count : u32_at file (place + 8) ≡ dir.count = ap (u32_at file) (sym here) ∙ there.0 in
     let is_zero : u32_at file (place + 8 + 4) ≡ 0 = there.1.0 in
     let is_size : u64_at file (place + 8 + 8) ≡ dir.size = there.1.1.0 in
     let is_offset : u64_at file (place + 8 + 16) ≡ dir.offset = there.1.1.1.0 in
     let next : place + length (bitmaps_bytes (Some dir)) ≡ place + 8 + 24 = omega arith in
     record {
-      listed = (head_stands end bitmaps_kind 24 _ whole (omega arith) (λ z. omega arith) (omega arith) (omega arith), subst (λ (k : ℕ). AreExtensions file end k es) next listed);
+      listed = (head_stands end bitmaps_kind 24 _ s (omega arith) (λ z. omega arith) (omega arith) (omega arith), subst (λ (k : ℕ). AreExtensions file end k es) next listed);
       says = sym (rw (is_offset, is_size, is_count) refl);
-      well =
-          ap (λ (k : ℕ). nat_lt 0 k || (u32_at file (place + 8) == 0) || not (is_place bits (u64_at file (place + 8 + 16)))) is_zero
-          ∙ ap (λ (k : ℕ). (k == 0) || not (is_place bits (u64_at file (place + 8 + 16)))) is_count
-          ∙ ap (λ (t : Bool). t || not (is_place bits (u64_at file (place + 8 + 16)))) (ne_eqb dir.count 0 are.0)
-          ∙ ap (λ (k : ℕ). not (is_place bits k)) is_offset
-          ∙ ap not are.1;
+      well = let some = are.0 in let good = are.1 in grind (arith, nat_tests);
     }
 
-pub bitmaps_found : (place : ℕ) (bitmaps : Option DirPlace) (es : List Extension) → first_of_kind bitmaps_kind es ≡ None → first_of_kind bitmaps_kind (in_front (bitmaps_extension place bitmaps) es) ≡ bitmaps_extension place bitmaps
-bitmaps_found place None es none = none
-bitmaps_found place (Some dir) es none = refl
-
-pub bitmaps_no_own : (place : ℕ) (bitmaps : Option DirPlace) (es : List Extension) → first_of_kind own_kind (in_front (bitmaps_extension place bitmaps) es) ≡ first_of_kind own_kind es
-bitmaps_no_own place None es = refl
-bitmaps_no_own place (Some dir) es = refl
-
-pub bitmaps_count : (place : ℕ) (bitmaps : Option DirPlace) (es : List Extension) → count_of bitmaps_kind es ≡ 0 → count_of bitmaps_kind (in_front (bitmaps_extension place bitmaps) es) ≤ 1
-bitmaps_count place None es none = omega arith
-bitmaps_count place (Some dir) es none = omega arith
-
-pub bitmaps_count_own : (place : ℕ) (bitmaps : Option DirPlace) (es : List Extension) → count_of own_kind (in_front (bitmaps_extension place bitmaps) es) ≡ count_of own_kind es
-bitmaps_count_own place None es = refl
-bitmaps_count_own place (Some dir) es = refl
-
-pub bitmaps_kept : (file : List ℕ) (place : ℕ) (bitmaps : Option DirPlace) (es : List Extension) → kept_bytes file (in_front (bitmaps_extension place bitmaps) es) ≡ kept_bytes file es
-bitmaps_kept file place None es = refl
-bitmaps_kept file place (Some dir) es = refl
-
-pub bitmaps_kept_length : (place : ℕ) (bitmaps : Option DirPlace) (es : List Extension) → kept_length (in_front (bitmaps_extension place bitmaps) es) ≡ kept_length es
-bitmaps_kept_length place None es = refl
-bitmaps_kept_length place (Some dir) es = refl
+pub bitmaps_front : (file : List ℕ) (place : ℕ) (bitmaps : Option DirPlace) (es : List Extension) → IsFront file bitmaps_kind own_kind (bitmaps_extension place bitmaps) es
+bitmaps_front file place bitmaps es = search rules
 
 -- they are there where the header has them
 pub bitmaps_there : (place : ℕ) (bitmaps : Option DirPlace) → is_there (bitmaps_extension place bitmaps) ≡ has_bitmaps bitmaps
-bitmaps_there place None = refl
-bitmaps_there place (Some dir) = refl
+bitmaps_there place bitmaps = search rules

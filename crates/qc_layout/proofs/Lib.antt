@@ -13,7 +13,6 @@ pub mod Puts
 pub mod Words
 pub mod Standing
 pub mod WrittenNumbers
-pub mod RuleLaws
 pub mod Blocks
 pub mod Heads
 pub mod Written

@@ -1,14 +1,13 @@
 -- How a list of extensions is read, one by one.
 use Rattle.std.proofs.Common.{rules}
-use Rattle.std.proofs.Common.{◌≡◌, inl, inr, ℕ, List, [], ◌∷◌, ◌++◌, refl, sym, ◌∙◌, subst, arith, append_assoc}
+use Rattle.std.proofs.Common.{◌≡◌, ℕ, List, [], ◌∷◌, ◌++◌, refl, sym, subst, append_assoc}
 use Rattle.std.proofs.lemmas.List.{append-nil}
 use Rattle.qc_layout.specs.declared.extension.Extension.{Extension}
 use Rattle.qc_layout.specs.Extensions.{IsEnd, IsExtension, AreExtensions, behind}
 
 -- at the list's end no extension stands
 pub end_or_extension : (file : List ℕ) (end from : ℕ) (e : Extension) → IsExtension file end from e → IsEnd file end from → ⊥
-end_or_extension file end from e is (inl short) = let i = is.inside in omega arith
-end_or_extension file end from e is (inr none) = is.some (is.kind ∙ none.1)
+end_or_extension file end from e is h5 = search rules
 
 -- one stands there at most
 pub one_extension : (file : List ℕ) (end from : ℕ) (a b : Extension) → IsExtension file end from a → IsExtension file end from b → a ≡ b
@@ -18,9 +17,6 @@ one_extension file end from a b is other = search rules
 pub record Follows (file : List ℕ) (end from at : ℕ) (found : List Extension) : Type 0 where
   pub goes_on : (rest : List Extension) → AreExtensions file end at rest → AreExtensions file end from (found ++ rest)
   pub comes : (es : List Extension) → AreExtensions file end from es → (rest : List Extension) × AreExtensions file end at rest
-
-pub follows_none : (file : List ℕ) (end from : ℕ) → Follows file end from from []
-follows_none file end from = record { goes_on = λ rest are. are; comes = λ es are. (es, are) }
 
 -- a list that begins with an extension goes on behind it
 behind_one : (file : List ℕ) (end at : ℕ) (e : Extension) (es : List Extension) → IsExtension file end at e → AreExtensions file end at es

@@ -1,6 +1,6 @@
 -- The header that was made is the one that the bytes spell.
 use Rattle.std.proofs.Common.{rules}
-use Rattle.std.proofs.Common.{◌≡◌, ℕ, List, ◌++◌, length, None, sym, ap, ◌∙◌, subst, arith}
+use Rattle.std.proofs.Common.{◌≡◌, ℕ, List, length, None, arith}
 use Rattle.std.specs.List.{All}
 use Rattle.std.proofs.lemmas.List.Elements.{All-same}
 use Rattle.qc_layout.specs.declared.extension.Extension.{Extension}
@@ -8,7 +8,7 @@ use Rattle.qc_layout.specs.declared.header.Fields.{Fields}
 use Rattle.qc_layout.specs.declared.header.Header.{Header}
 use Rattle.qc_layout.specs.declared.header.Part.{Part}
 use Rattle.qc_layout.specs.Header.{fields_of, first_of, number_fault}
-use Rattle.qc_layout.specs.Extensions.{AreExtensions, list_end, extension_rules, tail_of, kept_bytes}
+use Rattle.qc_layout.specs.Extensions.{AreExtensions, list_end, extension_rules}
 use Rattle.qc_layout.specs.Reading.{IsNear, IsMade}
 use Rattle.qc_layout.specs.Spelling.{AreIn, IsHeaderOf}
 use Rattle.qc_layout.proofs.Passing.{listing_near}
@@ -16,23 +16,6 @@ use Rattle.qc_layout.proofs.Passing.{listing_near}
 -- extensions that were listed are near, under another name too
 pub listed_near : (file : List ℕ) (end from bits : ℕ) (es passed : List Extension) → end ≡ list_end bits → AreExtensions file end from es → passed ≡ es → All IsNear passed
 listed_near file end from bits es passed is are same = All-same IsNear passed es same (listing_near file end from es (omega (arith, is)) are)
-
--- what was made of a file's numbers and extensions
-made_of : (part : Part) (file : List ℕ) (es : List Extension) (h : Header) → number_fault part (length file) (fields_of file) ≡ None → AreIn file es
-    → first_of (extension_rules part file (fields_of file) es) ≡ None → IsMade file (fields_of file) es h → IsHeaderOf part file h
-made_of part file es h numbers listed rules made = record {
-  spells = record {
-    numbers = numbers;
-    fields = made.fields;
-    extensions = es;
-    listed = listed;
-    rules = rules;
-    kept = made.kept ∙ ap (λ (f : Fields). tail_of file f.header_length ++ kept_bytes file es) (sym made.fields);
-    bitmaps = made.bitmaps;
-    own = made.own;
-  };
-  own_at = made.own_at;
-}
 
 -- what a run read and found
 pub record HasRead (part : Part) (file : List ℕ) (f : Fields) (end from : ℕ) (es passed : List Extension) : Type 0 where
@@ -50,8 +33,20 @@ read_listed part file f end from es passed has = search rules
 pub read_made : (part : Part) (file : List ℕ) (f : Fields) (end from : ℕ) (es passed : List Extension) (h : Header) → HasRead part file f end from es passed
     → first_of (extension_rules part file f passed) ≡ None → IsMade file f passed h → IsHeaderOf part file h
 read_made part file f end from es passed h has rules made =
-    made_of part file passed h
-    (subst (λ (g : Fields). number_fault part (length file) g ≡ None) has.read has.numbers)
-    (read_listed part file f end from es passed has)
-    (subst (λ (g : Fields). first_of (extension_rules part file g passed) ≡ None) has.read rules)
-    (subst (λ (g : Fields). IsMade file g passed h) has.read made)
+    let read = has.read in
+    let fields = made.fields in
+    let kept = made.kept in
+    let numbers = has.numbers in
+    record {
+      spells = record {
+        numbers = cc;
+        fields = cc;
+        extensions = passed;
+        listed = read_listed part file f end from es passed has;
+        rules = cc;
+        kept = cc;
+        bitmaps = made.bitmaps;
+        own = made.own;
+      };
+      own_at = made.own_at;
+    }

@@ -1,20 +1,16 @@
 -- A file stands for one disk at most.
-use Rattle.std.proofs.Common.{◌≡◌, ℕ, ◌/◌, ◌%◌, ◌^◌, ◌<◌, List, length, Result, Ok, Err, sym, subst, ◌∙◌}
+use Rattle.std.proofs.Common.{rules}
+use Rattle.std.proofs.Common.{◌≡◌, ℕ, ◌/◌, ◌%◌, ◌^◌, ◌<◌, List, length, Result, sym, subst, ◌∙◌}
 use Rattle.disk_model.specs.Files.{byte}
 use Rattle.disk_model.proofs.Laws.{same_file}
 use Rattle.qc_layout.specs.declared.entry.EntryFault.{EntryFault}
 use Rattle.qc_layout.specs.declared.entry.L2Entry.{L2Entry}
-use Rattle.qc_layout.specs.declared.entry.L2Entry.TheVariants.{Hole, Zero, Stored, Compressed}
 use Rattle.qc_layout.specs.declared.header.Part.{Part}
 use Rattle.qc_layout.specs.Disks.{Stands, ReadsAs, entry_at, bits_of}
 
 -- a cluster reads in one way
 one_byte : (file : List ℕ) (entry : Result L2Entry EntryFault) (t b other : ℕ) → ReadsAs file entry t b → ReadsAs file entry t other → b ≡ other
-one_byte file (Ok Hole) t b other is also = is ∙ sym also
-one_byte file (Ok (Zero host)) t b other is also = is ∙ sym also
-one_byte file (Ok (Stored host)) t b other is also = is ∙ sym also
-one_byte file (Ok Compressed) t b other is also = absurd is
-one_byte file (Err fault) t b other is also = absurd is
+one_byte file entry t b other is also = search rules
 
 pub one_disk : (part : Part) (file disk other : List ℕ) → Stands part file disk → Stands part file other → disk ≡ other
 one_disk part file disk other stands also =

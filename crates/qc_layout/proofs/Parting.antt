@@ -1,8 +1,8 @@
 -- As what a file is read of which it isn't known what it is.
-use Rattle.std.proofs.Common.{◌≡◌, inl, inr, ℕ, ◌+◌, ◌-◌, ◌*◌, ◌^◌, ◌<◌, ◌≤◌, ◌≢◌, min, Bool, false, List, [], ◌∷◌, Some, None, refl, sym, ap, subst, ◌∙◌, arith}
+use Rattle.std.proofs.Common.{◌≡◌, inl, inr, ℕ, ◌^◌, ◌≤◌, ◌≢◌, min, Bool, false, List, [], ◌∷◌, Some, None, refl, sym, ap, subst, ◌∙◌, arith}
 use Rattle.std.specs.Prelude.{◌==◌, if◌then◌else◌}
 use Rattle.std.proofs.lemmas.Bool.{cases_lt, eq-eqb, ne_eqb}
-use Rattle.std.proofs.lemmas.Nat.{pow-add, pow_pos}
+use Rattle.std.proofs.Math.Nat.{pow-le-pow_right}
 use Rattle.disk_model.specs.Files.{u32_at}
 use Rattle.qc_layout.specs.declared.extension.Extension.{Extension}
 use Rattle.qc_layout.specs.declared.header.Part.TheVariants as parts
@@ -14,19 +14,10 @@ use Rattle.qc_layout.proofs.Listing.{one_extension}
 -- ---- the list's end
 
 -- clusters of more bytes than 2 to the power 21 end the list where those do
-high_power : (bits : ℕ) → 21 < bits → 65536 ≤ 2 ^ bits
-high_power bits high =
-    let same : 21 + (bits - 21) ≡ bits = omega arith in
-    let e : 2 ^ bits ≡ 2097152 * 2 ^ (bits - 21) = ap (λ (n : ℕ). 2 ^ n) (sym same) ∙ pow-add 2 21 (bits - 21) in
-    let some = pow_pos (bits - 21) in
-    omega arith
-
-end_high : (bits : ℕ) → 21 < bits → list_end 21 ≡ list_end bits
-end_high bits high = let p = high_power bits high in omega arith
-
 pub end_min : (bits : ℕ) → list_end (min bits 21) ≡ list_end bits
 end_min bits = elim (cases_lt 21 bits) [
-  | inl high ↦ (let e : min bits 21 ≡ 21 = omega arith in ap list_end e) ∙ end_high bits high
+  | inl high ↦ let p : 2 ^ 21 ≤ 2 ^ bits = pow-le-pow_right {n = 2} (omega arith) {i = 21} {j = bits} (omega arith) in
+      (let e : min bits 21 ≡ 21 = omega arith in ap list_end e) ∙ omega arith
   | inr low ↦ let e : min bits 21 ≡ bits = omega arith in ap list_end e
 ]
 

@@ -1,39 +1,46 @@
 -- What holds where the rules of a header pass.
 use Rattle.std.proofs.Common.{rules}
-use Rattle.std.proofs.Common.{◌≡◌, ℕ, ◌%◌, ◌≤◌, Bool, true, false, List, [], ◌∷◌, Option, Some, None, refl, arith}
-use Rattle.std.specs.Prelude.{not, nat_lt, ◌==◌, ◌||◌, if◌then◌else◌}
+use Rattle.std.proofs.Common.{◌≡◌, ℕ, ◌%◌, ◌≤◌, Bool, false, List, [], ◌∷◌, Option, Some, None, refl, arith}
+use Rattle.std.specs.Prelude.{if◌then◌else◌}
 use Rattle.std.specs.List.{All}
-use Rattle.std.proofs.lemmas.Bool.Decides.{nat_tests}
 use Rattle.std.proofs.lemmas.List.Elements.{All-nil, All-cons}
 use Rattle.qc_layout.specs.declared.extension.Extension.{Extension}
 use Rattle.qc_layout.specs.declared.header.Fields.{Fields}
 use Rattle.qc_layout.specs.declared.header.Part.{Part}
 use Rattle.qc_layout.specs.declared.header.HeaderFault.{HeaderFault}
-use Rattle.qc_layout.specs.Header.{Rule, first_of, or_else, form_rules, feature_rules, table_rules, number_fault, is_bits}
+use Rattle.qc_layout.specs.Header.{Rule, first_of, or_else, form_rules, feature_rules, table_rules, number_fault}
 use Rattle.qc_layout.specs.Extensions.{IsExtension, AreExtensions, behind}
 use Rattle.qc_layout.specs.Reading.{IsNear}
 
 -- ---- rules
 
 -- neither of two, where there is none
-pub none_left : (a b : Option HeaderFault) → or_else a b ≡ None → a ≡ None
-none_left None b h = refl
-none_left (Some x) b h = absurd cc
+none_left : (a b : Option HeaderFault) → or_else a b ≡ None → a ≡ None
+none_left a b h = search rules
 
 pub none_right : (a b : Option HeaderFault) → or_else a b ≡ None → b ≡ None
-none_right None b h = h
-none_right (Some x) b h = absurd cc
+none_right a b h = search rules
 
--- a rule that passed
-pub record IsPassed (fails : Bool) (rest : Option HeaderFault) : Type 0 where
-  pub here : fails ≡ false
-  pub on : rest ≡ None
+pub or_none : (a b : Option HeaderFault) → a ≡ None → b ≡ None → or_else a b ≡ None
+or_none a b f h = cc
 
-pub passed : (fails : Bool) (fault : HeaderFault) (rest : Option HeaderFault) → (if fails then Some fault else rest) ≡ None → IsPassed fails rest
-passed true fault rest h = absurd cc
-passed false fault rest h = record { here = refl; on = h }
+-- each rule passed
+abbrev pub AllPass : List Rule → Type 0
+AllPass [] = Unit {0}
+AllPass (r ∷ rs) = (r.fails ≡ false) × AllPass rs
 
--- what the rules of its form say of a header
+first_passes : (fails : Bool) (fault : HeaderFault) (rest : Option HeaderFault) → (if fails then Some fault else rest) ≡ None → (fails ≡ false) × (rest ≡ None)
+first_passes fails fault rest h = search rules
+
+pub all_pass : (rs : List Rule) → first_of rs ≡ None → AllPass rs
+all_pass [] none = tt
+all_pass (r ∷ rs) none = let p = first_passes r.fails r.fault (first_of rs) none in (p.0, all_pass rs p.1)
+
+pub no_fault : (rs : List Rule) → AllPass rs → first_of rs ≡ None
+no_fault [] pass = refl
+no_fault (r ∷ rs) pass = let here = pass.0 in let rest = no_fault rs pass.1 in cc
+
+-- what the rules leave of a header's numbers
 pub record Passes (length : ℕ) (h : Fields) : Type 0 where
   pub long : 104 ≤ length
   pub length_low : 104 ≤ h.header_length
@@ -42,38 +49,24 @@ pub record Passes (length : ℕ) (h : Fields) : Type 0 where
   pub bits_low : 9 ≤ h.cluster_bits
   pub bits_high : h.cluster_bits ≤ 21
 
-long_enough : (length : ℕ) → nat_lt length 104 ≡ false → 104 ≤ length
-long_enough length h = grind (arith, nat_tests)
-
-pub record IsLength (n : ℕ) : Type 0 where
-  pub low : 104 ≤ n
-  pub high : n ≤ 504
-  pub whole : n % 8 ≡ 0
-
-length_is : (n : ℕ) → (nat_lt n 104 || nat_lt 504 n || not (n % 8 == 0)) ≡ false → IsLength n
-length_is n h = search rules
-
-pub record AreBits (n : ℕ) : Type 0 where
-  pub low : 9 ≤ n
-  pub high : n ≤ 21
-
-bits_are : (n : ℕ) → not (is_bits n) ≡ false → AreBits n
-bits_are n h = record { low = grind (arith, nat_tests); high = grind (arith, nat_tests) }
-
--- each rule passed
-abbrev pub AllPass : List Rule → Type 0
-AllPass [] = Unit {0}
-AllPass (r ∷ rs) = (r.fails ≡ false) × AllPass rs
-
-pub all_pass : (rs : List Rule) → first_of rs ≡ None → AllPass rs
-all_pass [] none = tt
-all_pass (r ∷ rs) none = let p = passed r.fails r.fault (first_of rs) none in (p.here, all_pass rs p.on)
-
 form_passes : (length : ℕ) (h : Fields) → first_of (form_rules length h) ≡ None → Passes length h
 form_passes length h none = search rules
 
 pub numbers_pass : (part : Part) (length : ℕ) (h : Fields) → number_fault part length h ≡ None → Passes length h
 numbers_pass part length h none = form_passes length h (none_left (first_of (form_rules length h)) (or_else (first_of (feature_rules part h)) (first_of (table_rules h))) none)
+
+-- the compression is none
+features_pass : (part : Part) (h : Fields) → first_of (feature_rules part h) ≡ None → h.compression_type ≡ 0
+features_pass part h none = search rules
+
+pub plain_pass : (part : Part) (length : ℕ) (h : Fields) → number_fault part length h ≡ None → h.compression_type ≡ 0
+plain_pass part length h none =
+    let features = none_right (first_of (form_rules length h)) (or_else (first_of (feature_rules part h)) (first_of (table_rules h))) none in
+    features_pass part h (none_left (first_of (feature_rules part h)) (first_of (table_rules h)) features)
+
+-- they pass in a file of another length too
+pub passed_in : (part : Part) (m n : ℕ) (f : Fields) → 104 ≤ n → number_fault part m f ≡ None → number_fault part n f ≡ None
+passed_in part m n f long passed = search rules
 
 -- ---- the list
 

@@ -1,13 +1,10 @@
 -- Plain entries of both levels: what is read of a word that is 0 or names a stored cluster, and which words that is read of.
 use Rattle.std.proofs.Common.{rules}
-use Rattle.std.proofs.Common.{◌≡◌, ◌≢◌, ◌⊎◌, inl, inr, ⊎_elim, ℕ, ◌/◌, ◌%◌, ◌^◌, Bool, true, false, Option, Some, None, Result, Ok, Err, refl, ap, ◌∙◌}
-use Rattle.std.specs.Prelude.{◌==◌, ◌&&◌, if◌then◌else◌}
-use Rattle.qc_layout.specs.declared.entry.EntryFault.{EntryFault}
-use Rattle.qc_layout.specs.declared.entry.EntryFault.TheVariants.{Reserved, Misaligned}
+use Rattle.std.proofs.Common.{◌≡◌, ◌⊎◌, ℕ, ◌%◌, ◌^◌, Some, None, Ok}
+use Rattle.std.specs.Prelude.{◌==◌, if◌then◌else◌}
 use Rattle.qc_layout.specs.declared.entry.L2Entry.TheVariants.{Hole, Stored}
 use Rattle.qc_layout.specs.Entries.{offset_in, l1_of, l2_of}
 use Rattle.qc_layout.specs.FirstForm.{IsPlainEntry}
-use Rattle.qc_layout.proofs.EntryLaws.{told}
 
 -- a plain entry whose offset is aligned, and that offset
 pub record IsPlainAt (bits word offset : ℕ) : Type 0 where
@@ -15,42 +12,7 @@ pub record IsPlainAt (bits word offset : ℕ) : Type 0 where
   pub aligned : offset_in word % 2 ^ bits ≡ 0
   pub is : offset ≡ offset_in word
 
--- two tests at once
-both : (a b : Bool) → (a && b) ≡ true → (a ≡ true) × (b ≡ true)
-both true true h = (refl, refl)
-both true false h = absurd cc
-both false b h = absurd cc
-
--- an offset that isn't tested to be 0 isn't 0
-some_offset : (o : ℕ) → (o == 0) ≡ false → o ≢ 0
-some_offset o ne z = let t : (o == 0) ≡ true = ap (λ (k : ℕ). k == 0) z in absurd cc
-
 -- ---- the first level
-
--- what the tests of a word give
-abbrev told1 : (plain aligned none : Bool) → ℕ → Result (Option ℕ) EntryFault
-told1 plain aligned none o = if plain then (if aligned then Ok (if none then None else Some o) else Err Misaligned) else Err Reserved
-
--- the tests of a word that names an offset
-record IsSome1 (plain aligned none : Bool) (o p : ℕ) : Type 0 where
-  pub is_plain : plain ≡ true
-  pub is_aligned : aligned ≡ true
-  pub some : none ≡ false
-  pub offset : p ≡ o
-
--- where they give an offset
-told1_some : (a b c : Bool) (o p : ℕ) → told1 a b c o ≡ Ok (Some p) → IsSome1 a b c o p
-told1_some false b c o p h = absurd cc
-told1_some true false c o p h = absurd cc
-told1_some true true true o p h = absurd cc
-told1_some true true false o p h = record { is_plain = refl; is_aligned = refl; some = refl; offset = cc }
-
--- where they give none
-told1_none : (a b c : Bool) (o : ℕ) → told1 a b c o ≡ Ok None → c ≡ true
-told1_none false b c o h = absurd cc
-told1_none true false c o h = absurd cc
-told1_none true true true o h = refl
-told1_none true true false o h = absurd cc
 
 -- a word that is read as an offset
 pub l1_some : (bits word offset : ℕ) → l1_of bits word ≡ Ok (Some offset) → IsPlainAt bits word offset
@@ -69,19 +31,6 @@ l1_plain bits word plain aligned = cc
 
 -- ---- the second level
 
--- the test of a word that is read as a hole
-told_hole : (a b c d e : Bool) (o : ℕ) → told a b c d e o ≡ Ok Hole → d ≡ true
-told_hole true b c d e o h = absurd cc
-told_hole false false c d e o h = absurd cc
-told_hole false true false d e o h = absurd cc
-told_hole false true true true e o h = refl
-told_hole false true true false true o h = absurd cc
-told_hole false true true false false o h = absurd cc
-
--- the tests of the second level leave no bit of a plain entry out
-bits_plain : (word : ℕ) → (word / 2 ^ 62 % 2 == 1) ≡ false → (word / 2 % 256 == 0) ≡ true → (word / 2 ^ 56 % 64 == 0) ≡ true → (word % 2 == 1) ≡ false → (word % 512 ≡ 0) × (word / 2 ^ 56 % 128 ≡ 0)
-bits_plain word a b c d = search rules
-
 -- a word that is read as a stored cluster
 pub l2_stored : (bits word offset : ℕ) → l2_of bits word ≡ Ok (Stored offset) → IsPlainAt bits word offset
 unfolding l2_of
@@ -92,18 +41,7 @@ pub l2_hole : (bits word : ℕ) → l2_of bits word ≡ Ok Hole → offset_in wo
 unfolding l2_of
 l2_hole bits word h = search rules
 
--- the tests of a plain word
-plain_told : (bits word : ℕ) → IsPlainEntry word → offset_in word % 2 ^ bits ≡ 0 → l2_of bits word ≡ told false true true (offset_in word == 0) false (offset_in word)
-unfolding l2_of
-plain_told bits word plain aligned = search rules
-
--- they leave two answers
-hole_or_stored : (d : Bool) (o : ℕ) → (told false true true d false o ≡ Ok Hole) ⊎ (told false true true d false o ≡ Ok (Stored o))
-hole_or_stored true o = inl refl
-hole_or_stored false o = inr refl
-
 -- what is read of a plain word
 pub l2_plain : (bits word : ℕ) → IsPlainEntry word → offset_in word % 2 ^ bits ≡ 0 → (l2_of bits word ≡ Ok Hole) ⊎ (l2_of bits word ≡ Ok (Stored (offset_in word)))
-l2_plain bits word plain aligned =
-    let t = plain_told bits word plain aligned in
-    ⊎_elim (λ hole. inl (t ∙ hole)) (λ stored. inr (t ∙ stored)) (hole_or_stored (offset_in word == 0) (offset_in word))
+unfolding l2_of
+l2_plain bits word plain aligned = search rules

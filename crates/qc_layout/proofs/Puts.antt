@@ -1,11 +1,11 @@
 -- Steps that write behind one another.
 use Rattle.std.proofs.Common.{rules}
 use Rattle.std.proofs.lemmas.Grind.{common_steps}
-use Rattle.std.proofs.Common.{◌≡◌, ℕ, ◌+◌, ◌-◌, min, List, [], ◌∷◌, ◌++◌, length, take, drop, replicate, ap, ◌∙◌, subst, arith, length-append}
+use Rattle.std.proofs.Common.{◌≡◌, ℕ, ◌+◌, ◌-◌, min, List, [], ◌++◌, length, take, drop, replicate, ap, ◌∙◌, subst, arith, length-append}
 use Rattle.std.proofs.lemmas.List.{drop-replicate}
 use Rattle.std.proofs.Math.Seq.{take-append_seam, drop-append-add}
 use Rattle.qc_layout.specs.declared.writing.Word.{Word}
-use Rattle.qc_layout.specs.Spelling.{Puts, word_bytes, words_bytes, IsSmallWord, AreSmallWords}
+use Rattle.qc_layout.specs.Spelling.{Puts, words_bytes, AreSmallWords}
 
 -- nothing is written
 pub puts_none : (bytes old : List ℕ) (place : ℕ) → bytes ≡ [] → Puts bytes old place old place
@@ -49,7 +49,3 @@ drop_least n l = grind (arith, common_steps)
 pub record PutsOn (words rest : List Word) (old : List ℕ) (place : ℕ) (now : List ℕ) (at : ℕ) : Type 0 where
   pub puts : (new : List ℕ) (end : ℕ) → Puts (words_bytes rest) now at new end → Puts (words_bytes words) old place new end
   pub small : AreSmallWords rest → AreSmallWords words
-
-pub puts_next : (words : List Word) (w : Word) (rest : List Word) (old now next : List ℕ) (place at end : ℕ) → PutsOn words (w ∷ rest) old place now at → Puts (word_bytes w) now at next end → IsSmallWord w
-    → PutsOn words rest old place next end
-puts_next words w rest old now next place at end before step small = grind (arith, common_steps)

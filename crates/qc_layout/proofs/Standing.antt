@@ -42,14 +42,6 @@ stands_right {file} {p} a b s =
           ∙ reading-append a b [] (length a) (length b) refl refl;
     }
 
-pub length-word32 : (n : ℕ) → length (word32 n) ≡ 4
-unfolding word32
-length-word32 n = refl
-
-pub length-word64 : (n : ℕ) → length (word64 n) ≡ 8
-unfolding word64
-length-word64 n = refl
-
 -- a number of four bytes
 pub stands_u32 : {file : List ℕ} {p : ℕ} (n : ℕ) → Stands file p (word32 n) → n < 2 ^ 32 → u32_at file p ≡ n
 unfolding word32
@@ -69,10 +61,12 @@ first_u64 {file} {p} n rest s small = stands_u64 n (stands_left (word64 n) rest 
 
 -- and the others
 pub past_u32 : {file : List ℕ} {p : ℕ} (n : ℕ) (rest : List ℕ) → Stands file p (word32 n ++ rest) → Stands file (p + 4) rest
-past_u32 {file} {p} n rest s = stands_at (ap (λ (k : ℕ). p + k) (length-word32 n)) (stands_right (word32 n) rest s)
+unfolding word32
+past_u32 {file} {p} n rest s = stands_right (word32 n) rest s
 
 pub past_u64 : {file : List ℕ} {p : ℕ} (n : ℕ) (rest : List ℕ) → Stands file p (word64 n ++ rest) → Stands file (p + 8) rest
-past_u64 {file} {p} n rest s = stands_at (ap (λ (k : ℕ). p + k) (length-word64 n)) (stands_right (word64 n) rest s)
+unfolding word64
+past_u64 {file} {p} n rest s = stands_right (word64 n) rest s
 
 -- a number in what stands here
 pub inner_u32 : {file : List ℕ} {p : ℕ} {bytes : List ℕ} → Stands file p bytes → (i : ℕ) → i + 4 ≤ length bytes → u32_at bytes i ≡ u32_at file (p + i)

@@ -1,22 +1,21 @@
 -- What is read of a file depends on its first sector alone, and on its first cluster up to 65536 bytes.
 use Rattle.std.specs.Int.{w64, w32}
 use Rattle.std.proofs.Common.{rules}
-use Rattle.std.proofs.Common.{◌≡◌, ◌⊎◌, inl, inr, ℕ, ◌+◌, ◌-◌, ◌*◌, ◌%◌, ◌^◌, ◌<◌, ◌≤◌, max, Bool, true, false, List, [], ◌∷◌, ◌++◌, length, take, Option, Some, None, refl, sym, ap, ◌∙◌, subst, arith, get_or-take, length-take}
-use Rattle.std.specs.Prelude.{not, nat_lt, ◌==◌, ◌||◌, if◌then◌else◌}
-use Rattle.std.proofs.lemmas.Bool.{eqb-true}
+use Rattle.std.proofs.Common.{◌≡◌, inl, inr, ℕ, ◌+◌, ◌-◌, ◌*◌, ◌%◌, ◌^◌, ◌<◌, ◌≤◌, max, false, List, [], ◌∷◌, ◌++◌, length, take, Option, Some, None, refl, sym, ap, ◌∙◌, subst, arith, get_or-take, length-take}
+use Rattle.std.specs.Prelude.{nat_lt, ◌==◌}
 use Rattle.std.proofs.lemmas.Bool.Decides.{nat_tests}
 use Rattle.std.proofs.lemmas.Nat.{pow-add}
+use Rattle.std.proofs.Math.Nat.{le-max_left, le-max_right, le_trans}
 use Rattle.disk_model.specs.Files.{byte, reading, u32_at, u64_at}
 use Rattle.disk_model.proofs.Laws.{byte-reading, reading-reading, reading_same, number_as}
 use Rattle.qc_layout.specs.declared.extension.Extension.{Extension}
 use Rattle.qc_layout.specs.declared.header.Fields.{Fields}
 use Rattle.qc_layout.specs.declared.header.Header.{Header}
-use Rattle.qc_layout.specs.declared.header.Own.TheVariants as owns
 use Rattle.qc_layout.specs.declared.header.Part.{Part}
 use Rattle.qc_layout.specs.declared.header.Part.TheVariants as parts
 use Rattle.qc_layout.specs.declared.header.HeaderFault.{HeaderFault}
-use Rattle.qc_layout.specs.Header.{first_of, fields_of, number_fault, is_place}
-use Rattle.qc_layout.specs.Extensions.{IsEnd, IsExtension, StandInRow, AreExtensions, behind, padded, list_end, extension_rules, is_bad_bitmaps, is_bad_own, is_kept, bytes_of, kept_bytes, tail_of, bitmaps_in, own_in, first_of_kind, bitmaps_kind, own_kind}
+use Rattle.qc_layout.specs.Header.{first_of, fields_of, number_fault}
+use Rattle.qc_layout.specs.Extensions.{IsEnd, IsExtension, StandInRow, AreExtensions, behind, padded, list_end, extension_rules, is_bad_bitmaps, is_bad_own, kept_bytes, tail_of, bitmaps_in, own_in, first_of_kind, bitmaps_kind, own_kind}
 use Rattle.qc_layout.specs.Disks as disks
 use Rattle.qc_layout.specs.Disks.{IsBackup, IsReadAs}
 use Rattle.qc_layout.specs.Spelling.{AreIn, IsHeaderOf, IsFault}
@@ -24,12 +23,6 @@ use Rattle.qc_layout.specs.Laws.{BeginAlike, start_length, start_of}
 use Rattle.qc_layout.proofs.Passing.{Passes, all_pass, numbers_pass}
 
 -- ---- bytes and numbers
-
-most_left : (a b n : ℕ) → max a b ≤ n → a ≤ n
-most_left a b n most = omega arith
-
-most_right : (a b n : ℕ) → max a b ≤ n → b ≤ n
-most_right a b n most = omega arith
 
 pub alike_reading : {n : ℕ} (a b : List ℕ) (at count : ℕ) → BeginAlike n a b → at + count ≤ n → reading a at count ≡ reading b at count
 alike_reading {n} a b at count alike inside =
@@ -53,47 +46,28 @@ alike_byte {n} a b at alike inside =
 
 -- they begin with a sector, and with the list of extensions
 pub alike_sector : {n : ℕ} (a b : List ℕ) → BeginAlike n a b → 512 ≤ n
-alike_sector {n} a b alike = most_left 512 (list_end (fields_of a).cluster_bits) n alike.enough
+alike_sector {n} a b alike = le_trans (le-max_left 512 (list_end (fields_of a).cluster_bits)) alike.enough
 
 pub alike_list : {n : ℕ} (a b : List ℕ) → BeginAlike n a b → list_end (fields_of a).cluster_bits ≤ n
-alike_list {n} a b alike = most_right 512 (list_end (fields_of a).cluster_bits) n alike.enough
+alike_list {n} a b alike = le_trans (le-max_right 512 (list_end (fields_of a).cluster_bits)) alike.enough
 
 pub alike_fields : {n : ℕ} (a b : List ℕ) → BeginAlike n a b → fields_of a ≡ fields_of b
 unfolding fields_of
-alike_fields a b alike =
+alike_fields {n} a b alike =
     let sector = alike_sector a b alike in
-    let at_0 = alike_32 a b 0 alike (omega arith) in
-    let at_4 = alike_32 a b 4 alike (omega arith) in
-    let at_8 = alike_64 a b 8 alike (omega arith) in
-    let at_16 = alike_32 a b 16 alike (omega arith) in
-    let at_20 = alike_32 a b 20 alike (omega arith) in
-    let at_24 = alike_64 a b 24 alike (omega arith) in
-    let at_32 = alike_32 a b 32 alike (omega arith) in
-    let at_36 = alike_32 a b 36 alike (omega arith) in
-    let at_40 = alike_64 a b 40 alike (omega arith) in
-    let at_48 = alike_64 a b 48 alike (omega arith) in
-    let at_56 = alike_32 a b 56 alike (omega arith) in
-    let at_60 = alike_32 a b 60 alike (omega arith) in
-    let at_64 = alike_64 a b 64 alike (omega arith) in
-    let at_72 = alike_64 a b 72 alike (omega arith) in
-    let at_80 = alike_64 a b 80 alike (omega arith) in
-    let at_88 = alike_64 a b 88 alike (omega arith) in
-    let at_96 = alike_32 a b 96 alike (omega arith) in
-    let at_100 = alike_32 a b 100 alike (omega arith) in
-    let at_104 = alike_byte a b 104 alike (omega arith) in
-    cc
-
-alike_short : (m n : ℕ) → (m < 104 → n < 104) → (n < 104 → m < 104) → nat_lt m 104 ≡ nat_lt n 104
-alike_short m n on back = grind (arith, nat_tests)
+    let four : (at : ℕ) → at + 4 ≤ 512 → u32_at a at ≡ u32_at b at = (λ at low. alike_32 a b at alike (omega arith)) in
+    let eight : (at : ℕ) → at + 8 ≤ 512 → u64_at a at ≡ u64_at b at = (λ at low. alike_64 a b at alike (omega arith)) in
+    let one = alike_byte a b 104 alike (omega arith) in
+    grind (arith, four, eight)
 
 -- the rules of its numbers see of a file's length whether it is below 104
-rules_short : (part : Part) (m n : ℕ) (f : Fields) → nat_lt m 104 ≡ nat_lt n 104 → number_fault part m f ≡ number_fault part n f
-rules_short part m n f e = cc
-
 pub alike_numbers : {n : ℕ} (part : Part) (a b : List ℕ) → BeginAlike n a b → number_fault part (length a) (fields_of a) ≡ number_fault part (length b) (fields_of b)
 alike_numbers part a b alike =
-    rules_short part (length a) (length b) (fields_of a) (alike_short (length a) (length b) alike.short alike.long)
-    ∙ ap (number_fault part (length b)) (alike_fields a b alike)
+    let on = alike.short in
+    let back = alike.long in
+    let short : nat_lt (length a) 104 ≡ nat_lt (length b) 104 = grind (arith, nat_tests) in
+    let same = alike_fields a b alike in
+    cc
 
 -- ---- the list
 
@@ -139,83 +113,57 @@ abbrev IsInIfThere : ℕ → Option Extension → Type 0
 IsInIfThere n None = Unit {0}
 IsInIfThere n (Some e) = IsIn n e
 
-within_if : (n : ℕ) (t : Bool) (e : Extension) (o : Option Extension) → IsIn n e → IsInIfThere n o → IsInIfThere n (if t then Some e else o)
-within_if n true e o is on = is
-within_if n false e o is on = on
-
 within_first : (n : ℕ) (file : List ℕ) (end from kind : ℕ) (es : List Extension) → end ≤ n → AreExtensions file end from es → IsInIfThere n (first_of_kind kind es)
 within_first n file end from kind [] small are = tt
 within_first n file end from kind (e ∷ es) small are =
-    let is : IsExtension file end from e = are.0 in
-    within_if n (e.kind == kind) e (first_of_kind kind es) (record { low = omega (arith, is.place); high = omega (arith, is.whole) }) (within_first n file end (behind e) kind es small are.1)
+    let here : IsIn n e = record { low = omega (arith, are.0.place); high = omega (arith, are.0.whole) } in
+    let rest = within_first n file end (behind e) kind es small are.1 in
+    search rules
 
 first_in : {n : ℕ} (a b : List ℕ) (kind : ℕ) (es : List Extension) → BeginAlike n a b → AreIn a es → IsInIfThere n (first_of_kind kind es)
 first_in {n} a b kind es alike are = within_first n a (list_end (fields_of a).cluster_bits) (fields_of a).header_length kind es (alike_list a b alike) are
 
 -- what the rule of bitmaps reads matters only where the extension has its length
-bad_if : (t : Bool) (pad pad' count count' offset offset' bits : ℕ) → (t ≡ true → (pad ≡ pad') × (count ≡ count') × (offset ≡ offset'))
-    → (not t || nat_lt 0 pad || (count == 0) || not (is_place bits offset)) ≡ (not t || nat_lt 0 pad' || (count' == 0) || not (is_place bits offset'))
-bad_if false pad pad' count count' offset offset' bits same = refl
-bad_if true pad pad' count count' offset offset' bits same = let s = same refl in let s0 = s.0 in let s1 = s.1 in let s2 = s.2 in cc
-
 alike_bad : {n : ℕ} (a b : List ℕ) (bits : ℕ) (o : Option Extension) → BeginAlike n a b → IsInIfThere n o → is_bad_bitmaps bits a o ≡ is_bad_bitmaps bits b o
 alike_bad a b bits None alike near = refl
 alike_bad {n} a b bits (Some e) alike near =
-    bad_if (e.length == 24) (u32_at a (e.place + 4)) (u32_at b (e.place + 4)) (u32_at a e.place) (u32_at b e.place) (u64_at a (e.place + 16)) (u64_at b (e.place + 16)) bits
-    (λ t. let n = eqb-true e.length 24 t in let h = near.high in
-    (alike_32 a b (e.place + 4) alike (omega arith), alike_32 a b e.place alike (omega arith), alike_64 a b (e.place + 16) alike (omega arith)))
-
-rules_bad : (part : Part) (a b : List ℕ) (f : Fields) (es : List Extension)
-    → is_bad_bitmaps f.cluster_bits a (first_of_kind bitmaps_kind es) ≡ is_bad_bitmaps f.cluster_bits b (first_of_kind bitmaps_kind es)
-    → first_of (extension_rules part a f es) ≡ first_of (extension_rules part b f es)
-rules_bad part a b f es e = cc
+    let high = near.high in
+    let pad : e.length ≡ 24 → u32_at a (e.place + 4) ≡ u32_at b (e.place + 4) = (λ t. alike_32 a b (e.place + 4) alike (omega arith)) in
+    let count : e.length ≡ 24 → u32_at a e.place ≡ u32_at b e.place = (λ t. alike_32 a b e.place alike (omega arith)) in
+    let offset : e.length ≡ 24 → u64_at a (e.place + 16) ≡ u64_at b (e.place + 16) = (λ t. alike_64 a b (e.place + 16) alike (omega arith)) in
+    grind (arith, nat_tests)
 
 pub alike_rules : {n : ℕ} (part : Part) (a b : List ℕ) (es : List Extension) → BeginAlike n a b → AreIn a es
     → first_of (extension_rules part a (fields_of a) es) ≡ first_of (extension_rules part b (fields_of b) es)
 alike_rules part a b es alike are =
-    rules_bad part a b (fields_of a) es (alike_bad a b (fields_of a).cluster_bits (first_of_kind bitmaps_kind es) alike (first_in a b bitmaps_kind es alike are))
-    ∙ ap (λ (f : Fields). first_of (extension_rules part b f es)) (alike_fields a b alike)
-
-bad_length : (bits : ℕ) (a : List ℕ) (e : Extension) → is_bad_bitmaps bits a (Some e) ≡ false → e.length ≡ 24
-bad_length bits a e good = grind (arith, nat_tests)
+    let bad = alike_bad a b (fields_of a).cluster_bits (first_of_kind bitmaps_kind es) alike (first_in a b bitmaps_kind es alike are) in
+    let fields = alike_fields a b alike in
+    cc
 
 alike_bitmaps : {n : ℕ} (a b : List ℕ) (bits : ℕ) (o : Option Extension) → BeginAlike n a b → IsInIfThere n o → is_bad_bitmaps bits a o ≡ false → bitmaps_in a o ≡ bitmaps_in b o
 alike_bitmaps a b bits None alike near good = refl
 alike_bitmaps a b bits (Some e) alike near good =
-    let n = bad_length bits a e good in
+    let n : e.length ≡ 24 = grind (arith, nat_tests) in
     let h = near.high in
     let count = alike_32 a b e.place alike (omega arith) in
     let size = alike_64 a b (e.place + 8) alike (omega arith) in
     let offset = alike_64 a b (e.place + 16) alike (omega arith) in
     cc
 
-own_length : (part : Part) (e : Extension) → is_bad_own part (Some e) ≡ false → (e.length ≡ 40) ⊎ (e.length ≡ 64)
-own_length parts.Source e good = inl (grind (arith, nat_tests))
-own_length parts.Target e good = inr (grind (arith, nat_tests))
-own_length parts.Foreign e good = inl (grind (arith, nat_tests))
-
 -- an extension of these lengths lies whole in those bytes
 own_fits : {n : ℕ} (part : Part) (e : Extension) → IsIn n e → is_bad_own part (Some e) ≡ false → (e.length == 40) ≡ false → e.place + 64 ≤ n
 own_fits {n} part e near good other = search rules
 
-own_if : (t : Bool) (a b : List ℕ) (place : ℕ)
-    → (t ≡ true → (reading a place 16 ≡ reading b place 16) × (u64_at a (place + 16) ≡ u64_at b (place + 16)) × (u64_at a (place + 24) ≡ u64_at b (place + 24)) × (u64_at a (place + 32) ≡ u64_at b (place + 32)))
-    → (t ≡ false → reading a place 64 ≡ reading b place 64)
-    → (if t then owns.Source (reading a place 16) (u64_at a (place + 16)) (u64_at a (place + 24)) (u64_at a (place + 32)) else owns.Target (reading a place 64))
-    ≡ (if t then owns.Source (reading b place 16) (u64_at b (place + 16)) (u64_at b (place + 24)) (u64_at b (place + 32)) else owns.Target (reading b place 64))
-own_if true a b place short long = let s = short refl in let s0 = s.0 in let s1 = s.1 in let s2 = s.2 in let s3 = s.3 in cc
-own_if false a b place short long = ap owns.Target (long refl)
-
 alike_own : {n : ℕ} (part : Part) (a b : List ℕ) (o : Option Extension) → BeginAlike n a b → IsInIfThere n o → is_bad_own part o ≡ false → own_in a o ≡ own_in b o
 alike_own part a b None alike near good = refl
 alike_own part a b (Some e) alike near good =
-    own_if (e.length == 40) a b e.place
-    (λ t. let n = eqb-true e.length 40 t in let h = near.high in
-    (alike_reading a b e.place 16 alike (omega arith), alike_64 a b (e.place + 16) alike (omega arith), alike_64 a b (e.place + 24) alike (omega arith), alike_64 a b (e.place + 32) alike (omega arith)))
-    (λ t. alike_reading a b e.place 64 alike (own_fits part e near good t))
-
-kept_if : (t : Bool) (a b c d : List ℕ) → a ≡ b → c ≡ d → (if t then a ++ c else c) ≡ (if t then b ++ d else d)
-kept_if t a b c d first rest = cc
+    let high = near.high in
+    let disk : e.length ≡ 40 → reading a e.place 16 ≡ reading b e.place 16 = (λ t. alike_reading a b e.place 16 alike (omega arith)) in
+    let epoch : e.length ≡ 40 → u64_at a (e.place + 16) ≡ u64_at b (e.place + 16) = (λ t. alike_64 a b (e.place + 16) alike (omega arith)) in
+    let offset : e.length ≡ 40 → u64_at a (e.place + 24) ≡ u64_at b (e.place + 24) = (λ t. alike_64 a b (e.place + 24) alike (omega arith)) in
+    let long : e.length ≡ 40 → u64_at a (e.place + 32) ≡ u64_at b (e.place + 32) = (λ t. alike_64 a b (e.place + 32) alike (omega arith)) in
+    let record_ : (e.length == 40) ≡ false → reading a e.place 64 ≡ reading b e.place 64 = (λ t. alike_reading a b e.place 64 alike (own_fits part e near good t)) in
+    grind (arith, nat_tests)
 
 -- the list stands on whole numbers of eight bytes, so that the padding too ends before the list's end
 alike_kept : {n : ℕ} (a b : List ℕ) (end from : ℕ) (es : List Extension) → BeginAlike n a b → end ≤ n → end % 8 ≡ 0 → from % 8 ≡ 0 → AreExtensions a end from es
@@ -224,9 +172,9 @@ alike_kept a b end from [] alike small whole starts are = refl
 alike_kept a b end from (e ∷ es) alike small whole starts are =
     let place = are.0.place in
     let inside = are.0.whole in
-    kept_if (is_kept e) (bytes_of a e) (bytes_of b e) (kept_bytes a es) (kept_bytes b es)
-    (alike_reading a b (e.place - 8) (8 + padded e.length) alike (omega arith))
-    (alike_kept a b end (behind e) es alike small whole (omega arith) are.1)
+    let this = alike_reading a b (e.place - 8) (8 + padded e.length) alike (omega arith) in
+    let rest = alike_kept a b end (behind e) es alike small whole (omega arith) are.1 in
+    cc
 
 end_whole : (bits : ℕ) → 9 ≤ bits → list_end bits % 8 ≡ 0
 end_whole bits low =
@@ -304,19 +252,13 @@ pub start_same : (n : ℕ) (file : List ℕ) → 24 ≤ n → start_length (take
 unfolding fields_of
 start_same n file some = ap (λ (bits : ℕ). max 512 (list_end bits)) (number_as w32 (take n file) file 20 20 (taken_reading n file 20 4 (omega arith)))
 
-taken_short : (n : ℕ) (file : List ℕ) → 512 ≤ n → length file < 104 → length (take n file) < 104
-taken_short n file sector short = omega (arith, length-take n file)
-
-taken_long : (n : ℕ) (file : List ℕ) → 512 ≤ n → length (take n file) < 104 → length file < 104
-taken_long n file sector short = omega (arith, length-take n file)
-
 -- the file begins as these bytes do
 pub begins : (file : List ℕ) → BeginAlike (start_length file) file (start_of file)
 begins file =
-    let sector = most_left 512 (list_end (fields_of file).cluster_bits) (start_length file) (omega arith) in
+    let sector = le-max_left 512 (list_end (fields_of file).cluster_bits) in
     record {
       enough = omega arith;
       bytes = sym (taken_reading (start_length file) file 0 (start_length file) (omega arith));
-      short = taken_short (start_length file) file sector;
-      long = taken_long (start_length file) file sector;
+      short = λ short. omega (arith, length-take (start_length file) file);
+      long = λ short. omega (arith, length-take (start_length file) file);
     }

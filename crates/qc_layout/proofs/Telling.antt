@@ -1,30 +1,28 @@
 -- What a file tells that begins with a new header: its numbers, its extensions, and nothing else of this project's own.
 use Rattle.std.proofs.Common.{rules}
-use Rattle.std.proofs.Common.{◌≡◌, inr, ℕ, ◌+◌, ◌≤◌, List, [], ◌∷◌, ◌++◌, length, drop, replicate, Bool, false, None, refl, sym, ap, ◌∙◌, subst, arith, length-append}
-use Rattle.std.specs.Prelude.{codes, not, ◌&&◌, nat_lt}
-use Rattle.std.proofs.lemmas.Bool.{le-ltb}
+use Rattle.std.proofs.Common.{◌≡◌, inr, ℕ, ◌+◌, ◌≤◌, List, [], ◌∷◌, ◌++◌, length, drop, replicate, Bool, false, Option, None, refl, sym, ap, ◌∙◌, subst, arith, length-append}
+use Rattle.std.specs.Prelude.{codes, not, ◌&&◌}
 use Rattle.disk_model.specs.Files.{reading, u32_at, number_at}
 use Rattle.disk_model.proofs.Laws.{reading-reading}
 use Rattle.qc_layout.specs.declared.extension.Extension.{Extension}
+use Rattle.qc_layout.specs.declared.header.DirPlace.{DirPlace}
 use Rattle.qc_layout.specs.declared.header.Own.{Own}
-use Rattle.qc_layout.specs.declared.header.Own.TheVariants as owns
 use Rattle.qc_layout.specs.declared.header.Part.{Part}
 use Rattle.qc_layout.specs.declared.header.Fields.{Fields}
 use Rattle.qc_layout.specs.declared.header.Header.{Header}
 use Rattle.qc_layout.specs.Header.{fields_of, number_fault, first_of, has_bit}
 use Rattle.qc_layout.specs.Extensions.{list_end, IsExtension, AreExtensions, extension_rules, first_of_kind, count_of, kept_length, own_in, backing_kind, bitmaps_kind, own_kind, is_bad_bitmaps, is_bad_own, is_there}
 use Rattle.qc_layout.specs.Disks.{Passes, HasExtension}
-use Rattle.qc_layout.specs.Spelling.{be32, IsHeaderOf, AreIn, words_bytes, number_words, tail_bytes, tail_length, kept_part, own_bytes, bitmaps_bytes, Fits, IsSmall, IsOwnOf}
+use Rattle.qc_layout.specs.Spelling.{be32, IsHeaderOf, AreIn, words_bytes, head_words, word32, number_words, tail_bytes, tail_length, kept_part, own_bytes, bitmaps_bytes, Fits, IsSmall, IsOwnOf}
 use Rattle.qc_layout.proofs.Standing.{Stands, stands_at, stands_as, stands_left, stands_right, inner_u32}
 use Rattle.qc_layout.proofs.WrittenNumbers.{fields_written, length-words}
-use Rattle.qc_layout.proofs.Words.{no_bitmaps_bytes, header_parts}
-use Rattle.qc_layout.proofs.RuleLaws.{ArePassed, are_passed, passed_in, no_fault, false_or}
+use Rattle.qc_layout.proofs.Words.{header_parts}
+use Rattle.qc_layout.proofs.Passing as passing
+use Rattle.qc_layout.proofs.Passing.{numbers_pass, plain_pass, passed_in, no_fault}
 use Rattle.qc_layout.proofs.Listing.{one_listing}
-use Rattle.qc_layout.proofs.Heads.{in_front, own_short, own_extension, own_says, own_found, own_no_bitmaps, own_count, own_count_bitmaps, own_kept_length}
-use Rattle.qc_layout.proofs.Written.{BeginsWith, ArePlaced, are_placed, tail_long, sector_in, compression_at}
-
-abbrev extension_of : ℕ → ℕ → ℕ → Extension
-extension_of kind place length = record { kind = kind; place = place; length = length }
+use Rattle.qc_layout.proofs.Blocks.{AreOthers}
+use Rattle.qc_layout.proofs.Heads.{in_front, extension_at, head_stands, own_short, own_extension, own_says, own_front}
+use Rattle.qc_layout.proofs.Written.{BeginsWith, extensions_pass, ArePlaced, are_placed, tail_long, sector_in, compression_at}
 
 -- ---- what a file tells
 
@@ -63,19 +61,17 @@ pub record IsNew (part : Part) (h : Header) : Type 0 where
   pub own : IsOwnOf part h.own
   pub short : length h.kept.items.items ≤ 279
 
-no_tail : (h : Header) → h.fields.header_length ≡ 112 → tail_length h ≡ 0
-no_tail h is = omega arith
-
 new_kept : (h : Header) → h.fields.header_length ≡ 112 → kept_part h ≡ h.kept.items.items
-new_kept h is = ap (λ (n : ℕ). drop n h.kept.items.items) (no_tail h is)
+new_kept h is = let none : tail_length h ≡ 0 = omega arith in ap (λ (n : ℕ). drop n h.kept.items.items) none
 
 new_long : (part : Part) (h : Header) → IsNew part h → 104 + length (tail_bytes h) ≡ h.fields.header_length
 new_long part h new =
     let is = new.header_length in
-    tail_long h (are_passed part 512 h.fields new.numbers) (omega arith)
+    tail_long h (numbers_pass part 512 h.fields new.numbers) (omega arith)
 
 no_bitmaps : (part : Part) (h : Header) → IsNew part h → length (bitmaps_bytes h.bitmaps) ≡ 0
-no_bitmaps part h new = ap length (ap bitmaps_bytes new.bitmaps ∙ no_bitmaps_bytes)
+unfolding bitmaps_bytes
+no_bitmaps part h new = ap (λ (o : Option DirPlace). length (bitmaps_bytes o)) new.bitmaps
 
 pub new_fits : (part : Part) (h : Header) → IsNew part h → Fits h
 new_fits part h new =
@@ -93,14 +89,6 @@ new_fits part h new =
     let short = new.short in
     omega (arith, ap length (header_parts h), own_short part h.own new.own, no_bitmaps part h new, ap length (new_kept h new.header_length))
 
--- Others than bitmaps and this project's own, none of which is kept.
-record AreOthers (es : List Extension) : Type 0 where
-  pub no_bitmaps : first_of_kind bitmaps_kind es ≡ None
-  pub no_own : first_of_kind own_kind es ≡ None
-  pub count_bitmaps : count_of bitmaps_kind es ≡ 0
-  pub count_own : count_of own_kind es ≡ 0
-  pub none_kept : kept_length es ≡ 0
-
 -- where its own bytes end
 abbrev behind_own : Header → ℕ
 behind_own h = 112 + length (own_bytes h.own)
@@ -112,8 +100,8 @@ record StandsBehind (file : List ℕ) (h : Header) : Type 0 where
   pub room : behind_own h + length h.kept.items.items + 8 ≤ 512
 
 module _ (part : Part) (h : Header) (file : List ℕ) (new : IsNew part h) (begins : BeginsWith file h) where
-  passed : ArePassed h.fields
-  passed = are_passed part 512 h.fields new.numbers
+  passed : passing.Passes 512 h.fields
+  passed = numbers_pass part 512 h.fields new.numbers
 
   placed : ArePlaced file h
   placed = are_placed file h (new_long part h new) begins
@@ -132,47 +120,37 @@ module _ (part : Part) (h : Header) (file : List ℕ) (new : IsNew part h) (begi
         room = omega arith;
       }
 
-  told : (more : List Extension) → AreOthers more → AreExtensions file (list_end h.fields.cluster_bits) (behind_own h) more → Tells part file h
-  told more others listed =
-      let is_fields = fields_written file h new.small.numbers placed.numbers (compression_at file h placed.tail) passed.no_compression in
+  told : (more : List Extension) → AreOthers more → kept_length more ≡ 0 → AreExtensions file (list_end h.fields.cluster_bits) (behind_own h) more → Tells part file h
+  told more others unkept listed =
+      let is_fields = fields_written file h new.small.numbers placed.numbers (compression_at file h placed.tail) (plain_pass part 512 h.fields new.numbers) in
       let end = list_end h.fields.cluster_bits in
-      let sector : 512 ≤ end = sector_in h.fields.cluster_bits passed.bits in
+      let sector : 512 ≤ end = sector_in h.fields.cluster_bits passed.bits_low in
       let room = stand_behind.room in
       let is = new.header_length in
       let own = own_says part file end 112 h.own more new.own new.small.own (stands_at is placed.own) (omega arith) (omega arith) listed in
       let all = in_front (own_extension 112 h.own) more in
-      let found_own : first_of_kind own_kind all ≡ own_extension 112 h.own = own_found 112 h.own more others.no_own in
-      let found_bitmaps : first_of_kind bitmaps_kind all ≡ None = own_no_bitmaps 112 h.own more ∙ others.no_bitmaps in
-      let one_bitmaps : count_of bitmaps_kind all ≤ 1 = omega (arith, own_count_bitmaps 112 h.own more, others.count_bitmaps) in
-      let one_own : count_of own_kind all ≤ 1 = own_count 112 h.own more others.count_own in
-      let count : kept_length all ≡ 0 = own_kept_length 112 h.own more ∙ others.none_kept in
+      let g = own_front file 112 h.own more in
+      let found_own : first_of_kind own_kind all ≡ own_extension 112 h.own = g.found others.no_own in
+      let found_bitmaps : first_of_kind bitmaps_kind all ≡ None = g.no_other ∙ others.no_bitmaps in
+      let one_bitmaps : count_of bitmaps_kind all ≤ 1 = omega (arith, g.count_other, others.count_bitmaps) in
+      let one_own : count_of own_kind all ≤ 1 = g.count others.count_own in
+      let count : kept_length all ≡ 0 = g.kept_length ∙ unkept in
       record {
         fields = is_fields;
         numbers = passed_in part 512 (length file) h.fields (omega (arith, begins.long)) new.numbers;
         extensions = all;
         listed = subst (λ (n : ℕ). AreExtensions file end n all) (sym is) own.listed;
-        rules = no_fault (extension_rules part file h.fields all) (
-          false_or (nat_lt 1 (count_of bitmaps_kind all)) (nat_lt 1 (count_of own_kind all)) (le-ltb _ _ one_bitmaps) (le-ltb _ _ one_own),
-          (
-            le-ltb _ _ (omega arith),
-            (
-              ap (is_bad_bitmaps h.fields.cluster_bits file) found_bitmaps,
-              (
-                ap (λ (t : Bool). t && not (is_there (first_of_kind bitmaps_kind all))) new.autoclear,
-                (ap (is_bad_own part) found_own ∙ own.well, tt),
-              ),
-            ),
-          ),
-        );
+        rules = extensions_pass part file h.fields all one_bitmaps one_own (omega arith) (ap (is_bad_bitmaps h.fields.cluster_bits file) found_bitmaps)
+            (ap (λ (t : Bool). t && not (is_there (first_of_kind bitmaps_kind all))) new.autoclear) (ap (is_bad_own part) found_own ∙ own.well);
         says = own.says ∙ ap (own_in file) (sym found_own);
       }
 
   -- nothing is kept
   pub bare_tells : h.kept.items.items ≡ [] → Tells part file h
   bare_tells none =
-      let sector : 512 ≤ list_end h.fields.cluster_bits = sector_in h.fields.cluster_bits passed.bits in
+      let sector : 512 ≤ list_end h.fields.cluster_bits = sector_in h.fields.cluster_bits passed.bits_low in
       let room = stand_behind.room in
-      told [] (record { no_bitmaps = refl; no_own = refl; count_bitmaps = refl; count_own = refl; none_kept = refl })
+      told [] (record { no_bitmaps = refl; no_own = refl; count_bitmaps = refl; count_own = refl }) refl
       (inr (omega arith, (let end : behind_own h + length h.kept.items.items ≡ behind_own h = omega (arith, ap length none) in ap (u32_at file) (sym end) ∙ stand_behind.zero)))
 
 -- ---- a file under it
@@ -181,13 +159,9 @@ module _ (part : Part) (h : Header) (file : List ℕ) (new : IsNew part h) (begi
 abbrev pub format_words : List ℕ
 format_words = be32 backing_kind ++ be32 5 ++ codes "qcow2" ++ replicate 11 0
 
-format_kind : u32_at format_words 0 ≡ backing_kind
-unfolding number_at reading
-format_kind = refl
-
-format_length : u32_at format_words 4 ≡ 5
-unfolding number_at reading
-format_length = refl
+format_head : words_bytes (head_words backing_kind 5) ++ (codes "qcow2" ++ replicate 11 0) ≡ format_words
+unfolding word32
+format_head = refl
 
 format_content : reading format_words 8 5 ≡ codes "qcow2"
 unfolding reading
@@ -198,9 +172,7 @@ unfolding number_at reading
 format_end = refl
 
 own_no_backing : (place : ℕ) (own : Own) (es : List Extension) → first_of_kind backing_kind (in_front (own_extension place own) es) ≡ first_of_kind backing_kind es
-own_no_backing place owns.Absent es = refl
-own_no_backing place (owns.Source disk epoch spans_offset spans_length) es = refl
-own_no_backing place (owns.Target bytes) es = refl
+own_no_backing place own es = search rules
 
 -- what such a file tells besides
 pub record TellsBacking (part : Part) (file : List ℕ) (h : Header) (name : List ℕ) : Type 0 where
@@ -217,28 +189,19 @@ module _ (part : Part) (h : Header) (file name : List ℕ) (new : IsNew part h) 
 
   enough : behind_own h + 24 + length name + 8 ≤ list_end h.fields.cluster_bits
   enough =
-      let sector : 512 ≤ list_end h.fields.cluster_bits = sector_in h.fields.cluster_bits (passed part h file new begins).bits in
+      let sector : 512 ≤ list_end h.fields.cluster_bits = sector_in h.fields.cluster_bits (passed part h file new begins).bits_low in
       omega (arith, (stand_behind part h file new begins).room, ap length keeps, length-append format_words name)
 
-  is_backing : IsExtension file (list_end h.fields.cluster_bits) (behind_own h) (extension_of backing_kind (behind_own h + 8) 5)
-  is_backing =
-      let here : behind_own h + 0 ≡ behind_own h = omega arith in
-      record {
-        inside = omega (arith, enough);
-        kind = sym format_kind ∙ inner_u32 words 0 (omega arith) ∙ ap (u32_at file) here;
-        some = λ z. omega arith;
-        place = refl;
-        length = sym format_length ∙ inner_u32 words 4 (omega arith);
-        whole = omega (arith, enough);
-      }
+  is_backing : IsExtension file (list_end h.fields.cluster_bits) (behind_own h) (extension_at backing_kind (behind_own h) 5)
+  is_backing = head_stands (list_end h.fields.cluster_bits) backing_kind 5 _ (stands_as (sym format_head) words) (omega arith) (λ z. omega arith) (omega arith) (omega (arith, enough))
 
-  listed : AreExtensions file (list_end h.fields.cluster_bits) (behind_own h) (extension_of backing_kind (behind_own h + 8) 5 ∷ [])
+  listed : AreExtensions file (list_end h.fields.cluster_bits) (behind_own h) (extension_at backing_kind (behind_own h) 5 ∷ [])
   listed =
       let next : behind_own h + 8 + 8 ≡ behind_own h + 16 = omega arith in
       (is_backing, inr (omega (arith, enough), ap (u32_at file) next ∙ sym (inner_u32 words 16 (omega arith)) ∙ format_end))
 
   all_told : Tells part file h
-  all_told = told part h file new begins (extension_of backing_kind (behind_own h + 8) 5 ∷ []) (record { no_bitmaps = refl; no_own = refl; count_bitmaps = refl; count_own = refl; none_kept = refl }) listed
+  all_told = told part h file new begins (extension_at backing_kind (behind_own h) 5 ∷ []) (record { no_bitmaps = refl; no_own = refl; count_bitmaps = refl; count_own = refl }) refl listed
 
   pub backed_tells : TellsBacking part file h name
   unfolding all_told told
@@ -246,8 +209,8 @@ module _ (part : Part) (h : Header) (file name : List ℕ) (new : IsNew part h) 
     tells = all_told;
     name_stands = (stands_right format_words name stand).read;
     format = λ es are. (
-      extension_of backing_kind (behind_own h + 8) 5,
-      ap (first_of_kind backing_kind) (told_list part file h all_told es are) ∙ own_no_backing 112 h.own (extension_of backing_kind (behind_own h + 8) 5 ∷ []),
+      extension_at backing_kind (behind_own h) 5,
+      ap (first_of_kind backing_kind) (told_list part file h all_told es are) ∙ own_no_backing 112 h.own (extension_at backing_kind (behind_own h) 5 ∷ []),
       sym (reading-reading file (behind_own h) 24 8 5 (omega arith)) ∙ ap (λ (l : List ℕ). reading l 8 5) words.read ∙ format_content,
     );
   }

@@ -1,29 +1,27 @@
 -- A header that was written is read again, by whoever reads a file that begins with its sector.
-use Rattle.std.proofs.Common.{◌≡◌, inl, inr, ℕ, ◌+◌, ◌-◌, ◌^◌, ◌<◌, ◌≤◌, List, [], ◌∷◌, ◌++◌, length, take, drop, replicate, Bool, false, Option, Some, None, refl, sym, ap, ◌∙◌, subst, arith, length-append}
-use Rattle.std.specs.Prelude.{not, ◌&&◌, ◌||◌, nat_lt, ◌==◌, if◌then◌else◌}
-use Rattle.std.proofs.lemmas.Bool.{cases_lt, le-ltb, ltb-false, eqb-true, eqb-false, ne_eqb, not-false}
+use Rattle.qc_layout.proofs.Kept.{reading_none}
+use Rattle.std.proofs.Common.{rules}
+use Rattle.std.proofs.Common.{◌≡◌, inl, inr, ℕ, ◌+◌, ◌-◌, ◌^◌, ◌<◌, ◌≤◌, List, [], ◌∷◌, ◌++◌, length, take, drop, replicate, Bool, false, Option, Some, None, sym, ap, ◌∙◌, subst, arith, length-append}
+use Rattle.std.specs.Prelude.{not, ◌&&◌, nat_lt}
+use Rattle.std.proofs.lemmas.Bool.{cases_lt, le-ltb, ltb-false, or_from}
 use Rattle.std.proofs.lemmas.List.{length-take, length-replicate, take-append-drop}
 use Rattle.std.proofs.Math.Nat.{pow-le-pow_right}
 use Rattle.std.proofs.Math.Seq.{drop-append_seam}
-use Rattle.disk_model.specs.Files.{byte, reading, u32_at, u64_at}
+use Rattle.disk_model.specs.Files.{byte, reading, u32_at}
 use Rattle.disk_model.proofs.Laws.{length-reading, byte-reading}
 use Rattle.qc_layout.specs.declared.extension.Extension.{Extension}
-use Rattle.qc_layout.specs.declared.header.DirPlace.{DirPlace}
-use Rattle.qc_layout.specs.declared.header.Own.{Own}
-use Rattle.qc_layout.specs.declared.header.Own.TheVariants as owns
 use Rattle.qc_layout.specs.declared.header.Part.{Part}
-use Rattle.qc_layout.specs.declared.header.Part.TheVariants as parts
 use Rattle.qc_layout.specs.declared.header.Fields.{Fields}
 use Rattle.qc_layout.specs.declared.header.Header.{Header}
-use Rattle.qc_layout.specs.Header.{fields_of, number_fault, first_of, has_bit, is_place}
+use Rattle.qc_layout.specs.Header.{fields_of, number_fault, first_of, has_bit}
 use Rattle.qc_layout.specs.Extensions.{list_end, IsEnd, AreExtensions, extension_rules, first_of_kind, count_of, kept_bytes, kept_length, tail_of, bitmaps_in, own_in, bitmaps_kind, own_kind, is_bad_bitmaps, is_bad_own, is_there}
 use Rattle.qc_layout.specs.Spelling.{Spells, words_bytes, number_words, tail_bytes, tail_length, kept_part, own_bytes, bitmaps_bytes, header_bytes, Fits, sector_of, joined, IsSmall, IsWritable, AreBitmaps, has_bitmaps, IsOwnOf}
 use Rattle.qc_layout.proofs.Standing.{Stands, stands_at, stands_as, stands_left, stands_right, inner_u32, zeros_u32}
 use Rattle.qc_layout.proofs.WrittenNumbers.{fields_written, length-words}
 use Rattle.qc_layout.proofs.Words.{no_tail_bytes, tail_words, header_parts}
-use Rattle.qc_layout.proofs.RuleLaws.{ArePassed, are_passed, passed_in, none_fails, no_fault, or_false, false_or}
-use Rattle.qc_layout.proofs.Blocks.{as_extensions, blocks_listed, blocks_bytes, blocks_length, blocks_no_bitmaps, blocks_no_own, blocks_count_bitmaps, blocks_count_own, blocks_of, are_blocks, kept_joined, kept_long}
-use Rattle.qc_layout.proofs.Heads.{in_front, own_extension, own_says, own_found, own_no_bitmaps, own_count, own_count_bitmaps, own_kept, own_kept_length, bitmaps_extension, bitmaps_say, bitmaps_found, bitmaps_no_own, bitmaps_count, bitmaps_count_own, bitmaps_kept, bitmaps_kept_length, bitmaps_there}
+use Rattle.qc_layout.proofs.Passing.{Passes, numbers_pass, plain_pass, all_pass, no_fault, passed_in}
+use Rattle.qc_layout.proofs.Blocks.{as_extensions, blocks_listed, blocks_bytes, blocks_length, blocks_others, blocks_of, are_blocks, kept_joined, kept_long}
+use Rattle.qc_layout.proofs.Heads.{in_front, own_extension, own_says, own_front, bitmaps_extension, bitmaps_say, bitmaps_front, bitmaps_there}
 
 -- the file begins with the header's sector
 pub record BeginsWith (file : List ℕ) (h : Header) : Type 0 where
@@ -34,12 +32,12 @@ pub record BeginsWith (file : List ℕ) (h : Header) : Type 0 where
 -- ---- where the parts stand
 
 -- a header's bytes up to its end
-pub tail_long : (h : Header) → ArePassed h.fields → tail_length h ≤ length h.kept.items.items → 104 + length (tail_bytes h) ≡ h.fields.header_length
-tail_long h passed inside = elim (cases_lt 104 h.fields.header_length) [
-  | inl long ↦ (let whole = passed.eights in
-      let from = passed.from_104 in
+pub tail_long : {n : ℕ} (h : Header) → Passes n h.fields → tail_length h ≤ length h.kept.items.items → 104 + length (tail_bytes h) ≡ h.fields.header_length
+tail_long {n} h passed inside = elim (cases_lt 104 h.fields.header_length) [
+  | inl long ↦ (let whole = passed.length_whole in
+      let from = passed.length_low in
       omega (arith, ap length (tail_words h long), length-append (h.fields.compression_type ∷ 0 ∷ 0 ∷ 0 ∷ 0 ∷ 0 ∷ 0 ∷ 0 ∷ []) (take (tail_length h) h.kept.items.items), length-take (tail_length h) h.kept.items.items))
-  | inr short ↦ (let from = passed.from_104 in omega (arith, ap length (no_tail_bytes h short)))
+  | inr short ↦ (let from = passed.length_low in omega (arith, ap length (no_tail_bytes h short)))
 ]
 
 pub record ArePlaced (file : List ℕ) (h : Header) : Type 0 where
@@ -100,9 +98,9 @@ compression_at file h s long =
     ∙ ap (λ (l : List ℕ). byte l 0) (s.read ∙ sym words)
 
 -- what a longer header has behind it
-tail_at : (file : List ℕ) (h : Header) → ArePassed h.fields → tail_length h ≤ length h.kept.items.items → Stands file 104 (tail_bytes h) →
+tail_at : {n : ℕ} (file : List ℕ) (h : Header) → Passes n h.fields → tail_length h ≤ length h.kept.items.items → Stands file 104 (tail_bytes h) →
     tail_of file h.fields.header_length ≡ take (tail_length h) h.kept.items.items
-tail_at file h passed inside s = elim (cases_lt 104 h.fields.header_length) [
+tail_at {n} file h passed inside s = elim (cases_lt 104 h.fields.header_length) [
   | inl long ↦ (
       let first = h.fields.compression_type ∷ 0 ∷ 0 ∷ 0 ∷ 0 ∷ 0 ∷ 0 ∷ 0 ∷ [] in
       let rest = take (tail_length h) h.kept.items.items in
@@ -111,23 +109,26 @@ tail_at file h passed inside s = elim (cases_lt 104 h.fields.header_length) [
       ap (reading file 112) (sym count) ∙ behind.read)
   | inr short ↦ (
       let none : h.fields.header_length - 112 ≡ 0 = omega arith in
-      ap (reading file 112) none ∙ no_bytes (reading file 112 0) (length-reading file 112 0) ∙ ap (λ (k : ℕ). take k h.kept.items.items) (sym none))
+      ap (reading file 112) none ∙ reading_none file 112 ∙ ap (λ (k : ℕ). take k h.kept.items.items) (sym none))
 ]
-  where
-    no_bytes : (l : List ℕ) → length l ≡ 0 → l ≡ []
-    no_bytes [] none = refl
-    no_bytes (b ∷ bs) none = absurd (omega arith)
+
+-- the rules of extensions, one by one
+pub extensions_pass : (part : Part) (file : List ℕ) (f : Fields) (es : List Extension) → count_of bitmaps_kind es ≤ 1 → count_of own_kind es ≤ 1 → f.header_length + kept_length es + 88 ≤ 512
+    → is_bad_bitmaps f.cluster_bits file (first_of_kind bitmaps_kind es) ≡ false → (has_bit 0 f.autoclear_features && not (is_there (first_of_kind bitmaps_kind es))) ≡ false
+    → is_bad_own part (first_of_kind own_kind es) ≡ false → first_of (extension_rules part file f es) ≡ None
+extensions_pass part file f es bitmaps own room well autoclear fits = no_fault (extension_rules part file f es)
+    (or_from (nat_lt 1 (count_of bitmaps_kind es)) (nat_lt 1 (count_of own_kind es)) (le-ltb _ _ bitmaps) (le-ltb _ _ own), (le-ltb _ _ (omega arith), (well, (autoclear, (fits, tt)))))
 
 -- ---- what is written spells the header
 
 pub writable_spelled : (part : Part) (h : Header) (written : List ℕ) → IsWritable part h → BeginsWith written h → Spells part written h
 writable_spelled part h written w begins =
-    let passed = are_passed part 512 h.fields w.numbers in
+    let passed = numbers_pass part 512 h.fields w.numbers in
     let placed = are_placed written h (tail_long h passed w.tail) begins in
     let room = placed.room in
-    let is = fields_written written h w.small.numbers placed.numbers (compression_at written h placed.tail) passed.no_compression in
+    let is = fields_written written h w.small.numbers placed.numbers (compression_at written h placed.tail) (plain_pass part 512 h.fields w.numbers) in
     let end = list_end h.fields.cluster_bits in
-    let sector : 512 ≤ end = sector_in h.fields.cluster_bits passed.bits in
+    let sector : 512 ≤ end = sector_in h.fields.cluster_bits passed.bits_low in
     let p1 = h.fields.header_length in
     let p2 = h.fields.header_length + length (own_bytes h.own) in
     let p3 = h.fields.header_length + length (own_bytes h.own) + length (bitmaps_bytes h.bitmaps) in
@@ -140,37 +141,24 @@ writable_spelled part h written w begins =
     let more = in_front (bitmaps_extension p2 h.bitmaps) kept in
     let own = own_says part written end p1 h.own more w.own w.small.own placed.own (omega arith) (omega arith) bitmaps.listed in
     let all = in_front (own_extension p1 h.own) more in
-    let found_own : first_of_kind own_kind all ≡ own_extension p1 h.own =
-    own_found p1 h.own more (bitmaps_no_own p2 h.bitmaps kept ∙ blocks_no_own p3 w.blocks w.unknown) in
-    let found_bitmaps : first_of_kind bitmaps_kind all ≡ bitmaps_extension p2 h.bitmaps =
-    own_no_bitmaps p1 h.own more ∙ bitmaps_found p2 h.bitmaps kept (blocks_no_bitmaps p3 w.blocks w.unknown) in
-    let one_bitmaps : count_of bitmaps_kind all ≤ 1 =
-    omega (arith, own_count_bitmaps p1 h.own more, bitmaps_count p2 h.bitmaps kept (blocks_count_bitmaps p3 w.blocks w.unknown)) in
-    let one_own : count_of own_kind all ≤ 1 = own_count p1 h.own more (bitmaps_count_own p2 h.bitmaps kept ∙ blocks_count_own p3 w.blocks w.unknown) in
-    let bytes : kept_bytes written all ≡ kept_part h =
-    own_kept written p1 h.own more ∙ bitmaps_kept written p2 h.bitmaps kept ∙ blocks_bytes written p3 w.blocks w.unknown stand ∙ sym w.kept in
-    let count : kept_length all ≡ length (kept_part h) =
-    own_kept_length p1 h.own more ∙ bitmaps_kept_length p2 h.bitmaps kept ∙ blocks_length p3 w.blocks w.unknown ∙ sym long in
+    let others = blocks_others p3 w.blocks w.unknown in
+    let f = bitmaps_front written p2 h.bitmaps kept in
+    let g = own_front written p1 h.own more in
+    let found_own : first_of_kind own_kind all ≡ own_extension p1 h.own = g.found (f.no_other ∙ others.no_own) in
+    let found_bitmaps : first_of_kind bitmaps_kind all ≡ bitmaps_extension p2 h.bitmaps = g.no_other ∙ f.found others.no_bitmaps in
+    let one_bitmaps : count_of bitmaps_kind all ≤ 1 = omega (arith, g.count_other, f.count others.count_bitmaps) in
+    let one_own : count_of own_kind all ≤ 1 = g.count (f.count_other ∙ others.count_own) in
+    let bytes : kept_bytes written all ≡ kept_part h = g.kept ∙ f.kept ∙ blocks_bytes written p3 w.blocks w.unknown stand ∙ sym w.kept in
+    let count : kept_length all ≡ length (kept_part h) = g.kept_length ∙ f.kept_length ∙ blocks_length p3 w.blocks w.unknown ∙ sym long in
     let little = w.room in
     record {
       numbers = subst (λ (f : Fields). number_fault part (length written) f ≡ None) (sym is) (passed_in part 512 (length written) h.fields (omega (arith, begins.long)) w.numbers);
       fields = sym is;
       extensions = all;
       listed = subst (λ (f : Fields). AreExtensions written (list_end f.cluster_bits) f.header_length all) (sym is) own.listed;
-      rules = subst (λ (f : Fields). first_of (extension_rules part written f all) ≡ None) (sym is) (no_fault (extension_rules part written h.fields all) (
-        false_or (nat_lt 1 (count_of bitmaps_kind all)) (nat_lt 1 (count_of own_kind all)) (le-ltb _ _ one_bitmaps) (le-ltb _ _ one_own),
-        (
-          le-ltb _ _ (omega arith),
-          (
-            ap (is_bad_bitmaps h.fields.cluster_bits written) found_bitmaps ∙ bitmaps.well,
-            (
-              ap (λ (o : Option Extension). has_bit 0 h.fields.autoclear_features && not (is_there o)) found_bitmaps
-                  ∙ ap (λ (t : Bool). has_bit 0 h.fields.autoclear_features && not t) (bitmaps_there p2 h.bitmaps) ∙ w.autoclear,
-              (ap (is_bad_own part) found_own ∙ own.well, tt),
-            ),
-          ),
-        ),
-      ));
+      rules = subst (λ (f : Fields). first_of (extension_rules part written f all) ≡ None) (sym is) (extensions_pass part written h.fields all one_bitmaps one_own (omega arith) (ap (is_bad_bitmaps h.fields.cluster_bits written) found_bitmaps ∙ bitmaps.well)
+          (ap (λ (o : Option Extension). has_bit 0 h.fields.autoclear_features && not (is_there o)) found_bitmaps ∙ ap (λ (t : Bool). has_bit 0 h.fields.autoclear_features && not t) (bitmaps_there p2 h.bitmaps) ∙ w.autoclear)
+          (ap (is_bad_own part) found_own ∙ own.well));
       kept = sym (take-append-drop (tail_length h) h.kept.items.items)
           ∙ ap (λ (l : List ℕ). l ++ kept_part h) (sym (tail_at written h passed w.tail placed.tail))
           ∙ ap (λ (l : List ℕ). tail_of written h.fields.header_length ++ l) (sym bytes);
@@ -181,39 +169,25 @@ writable_spelled part h written w begins =
 -- ---- a header that some file spells can be written
 
 bitmaps_well : (bits : ℕ) (file : List ℕ) (o : Option Extension) → is_bad_bitmaps bits file o ≡ false → AreBitmaps bits (bitmaps_in file o)
-bitmaps_well bits file None well = tt
-bitmaps_well bits file (Some e) well =
-    let a = or_false (not (e.length == 24) || nat_lt 0 (u32_at file (e.place + 4)) || (u32_at file e.place == 0)) (not (is_place bits (u64_at file (e.place + 16)))) well in
-    let b = or_false (not (e.length == 24) || nat_lt 0 (u32_at file (e.place + 4))) (u32_at file e.place == 0) a.0 in
-    (eqb-false _ _ b.1, not-false (is_place bits (u64_at file (e.place + 16))) a.1)
+bitmaps_well bits file o well = search rules
 
 bitmaps_found_there : (file : List ℕ) (o : Option Extension) → is_there o ≡ has_bitmaps (bitmaps_in file o)
-bitmaps_found_there file None = refl
-bitmaps_found_there file (Some e) = refl
-
--- by whether its content has 40 bytes
-abbrev told_own : Bool → List ℕ → Extension → Own
-told_own t file e =
-    if t then owns.Source (reading file e.place 16) (u64_at file (e.place + 16)) (u64_at file (e.place + 24)) (u64_at file (e.place + 32)) else owns.Target (reading file e.place 64)
+bitmaps_found_there file o = search rules
 
 own_well : (part : Part) (file : List ℕ) (o : Option Extension) → is_bad_own part o ≡ false → IsOwnOf part (own_in file o)
 own_well part file None well = tt
-own_well parts.Source file (Some e) well =
-    subst (λ (t : Bool). IsOwnOf parts.Source (told_own t file e)) (sym (not-false (e.length == 40) well)) (length-reading file e.place 16)
-own_well parts.Foreign file (Some e) well =
-    subst (λ (t : Bool). IsOwnOf parts.Foreign (told_own t file e)) (sym (not-false (e.length == 40) well)) (length-reading file e.place 16)
-own_well parts.Target file (Some e) well =
-    let a = or_false (not (e.length == 64)) (nat_lt 512 (e.place + e.length)) well in
-    let long : e.length ≡ 64 = eqb-true _ _ (not-false (e.length == 64) a.0) in
-    subst (λ (t : Bool). IsOwnOf parts.Target (told_own t file e)) (sym (ne_eqb e.length 40 (λ z. omega arith))) (length-reading file e.place 64)
+own_well part file (Some e) well =
+    let short = length-reading file e.place 16 in
+    let long = length-reading file e.place 64 in
+    search rules
 
 pub spelled_writable : (part : Part) (h : Header) (file : List ℕ) → IsSmall h → Spells part file h → IsWritable part h
 spelled_writable part h file small s =
     let f = fields_of file in
     let es = s.extensions in
-    let passed = are_passed part (length file) f s.numbers in
+    let passed = numbers_pass part (length file) f s.numbers in
     let same : f ≡ h.fields = sym s.fields in
-    let rules = none_fails (extension_rules part file f es) s.rules in
+    let rules = all_pass (extension_rules part file f es) s.rules in
     let count : length (tail_of file h.fields.header_length) ≡ tail_length h = length-reading file 112 (h.fields.header_length - 112) in
     let part_is : kept_part h ≡ kept_bytes file es =
     ap (λ (l : List ℕ). drop (tail_length h) l) s.kept
@@ -231,11 +205,7 @@ spelled_writable part h file small s =
       kept = part_is ∙ kept_joined file es;
       room = omega (arith, ap length part_is, kept_long file es);
       bitmaps = subst (λ (g : Fields). AreBitmaps g.cluster_bits h.bitmaps) same well;
-      autoclear =
-          ap (λ (g : Fields). has_bit 0 g.autoclear_features && not (has_bitmaps h.bitmaps)) s.fields
-          ∙ ap (λ (o : Option DirPlace). has_bit 0 f.autoclear_features && not (has_bitmaps o)) s.bitmaps
-          ∙ ap (λ (t : Bool). has_bit 0 f.autoclear_features && not t) (sym (bitmaps_found_there file (first_of_kind bitmaps_kind es)))
-          ∙ rules.1.1.1.0;
+      autoclear = let a = s.fields in let b = s.bitmaps in let c = bitmaps_found_there file (first_of_kind bitmaps_kind es) in let d = rules.1.1.1.0 in cc;
       own = subst (IsOwnOf part) (sym s.own) (own_well part file (first_of_kind own_kind es) rules.1.1.1.1.0);
     }
 

@@ -5,6 +5,16 @@ use Rattle.qc_layout.specs.declared.entry.EntryFault.TheVariants.{Reserved, Misa
 use Rattle.qc_layout.specs.declared.entry.L2Entry.{L2Entry}
 use Rattle.qc_layout.specs.declared.entry.L2Entry.TheVariants.{Hole, Zero, Stored, Compressed}
 
+-- bit 63: the refcount is one; bit 62: the cluster is compressed; bit 0: it reads as zeros
+abbrev pub copied_flag : ℕ
+copied_flag = 2 ^ 63
+
+abbrev pub compressed_flag : ℕ
+compressed_flag = 2 ^ 62
+
+abbrev pub zero_flag : ℕ
+zero_flag = 1
+
 -- bits 9 to 55, as an offset
 abbrev pub offset_in : ℕ → ℕ
 offset_in entry = entry / 512 % 2 ^ 47 * 512
@@ -19,10 +29,10 @@ l1_of bits entry =
 -- what an entry of the second level says
 unfoldable pub l2_of : ℕ → ℕ → Result L2Entry EntryFault
 l2_of bits entry =
-    if entry / 2 ^ 62 % 2 == 1 then Ok Compressed
+    if entry / compressed_flag % 2 == 1 then Ok Compressed
     else if (entry / 2 % 256 == 0) && (entry / 2 ^ 56 % 64 == 0) then
     (if offset_in entry % 2 ^ bits == 0 then
-    Ok (if offset_in entry == 0 then Hole else if entry % 2 == 1 then Zero (offset_in entry) else Stored (offset_in entry))
+    Ok (if offset_in entry == 0 then Hole else if entry % 2 == zero_flag then Zero (offset_in entry) else Stored (offset_in entry))
     else Err Misaligned)
     else Err Reserved
 
@@ -42,6 +52,6 @@ IsWritable Compressed = Unit {0}
 -- the word that says it: bit 63 beside each offset, and 0 for a hole
 abbrev pub l2_word : L2Entry → ℕ
 l2_word Hole = 0
-l2_word (Zero offset) = offset + 1 + 2 ^ 63
-l2_word (Stored offset) = offset + 2 ^ 63
-l2_word Compressed = 2 ^ 62
+l2_word (Zero offset) = offset + zero_flag + copied_flag
+l2_word (Stored offset) = offset + copied_flag
+l2_word Compressed = compressed_flag

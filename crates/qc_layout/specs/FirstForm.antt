@@ -3,6 +3,7 @@ use Rattle.std.specs.Prelude.{◌≡◌, ◌≢◌, ℕ, ◌+◌, ◌*◌, ◌/�
 use Rattle.std.specs.List.{range_with_len}
 use Rattle.disk_model.specs.Files.{byte, reading, u32_at, u64_at}
 use Rattle.qc_layout.specs.Entries.{offset_in}
+use Rattle.qc_layout.specs.Header.{qcow2_magic}
 
 -- the header without its extensions
 abbrev pub head_of : List ℕ → List ℕ
@@ -19,7 +20,7 @@ l1_offset file = u64_at (head_of file) 40
 -- The header of an image that is taken: version 3, clusters of 4096 bytes, a disk of at most 2^21 bytes, one first-level
 -- entry, no backing file, no encryption, no snapshots, no incompatible or autoclear feature, refcounts of 16 bits.
 pub record IsHeader (head : List ℕ) : Type 0 where
-  pub magic : u32_at head 0 ≡ 0x514649fb
+  pub magic : u32_at head 0 ≡ qcow2_magic
   pub version : u32_at head 4 ≡ 3
   pub backing : u64_at head 8 ≡ 0
   pub bits : u32_at head 20 ≡ 12

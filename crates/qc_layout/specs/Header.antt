@@ -29,6 +29,10 @@ or_else (Some a) b = Some a
 
 -- ---- the numbers of a header
 
+-- what an image begins with
+abbrev pub qcow2_magic : ℕ
+qcow2_magic = 0x514649fb
+
 -- Where they stand. The compression type is there only in a header that is longer than 104 bytes.
 unfoldable pub fields_of : List ℕ → Fields
 fields_of file = record {
@@ -83,7 +87,7 @@ is_disk part = true
 abbrev pub form_rules : ℕ → Fields → List Rule
 form_rules length h =
     rule Short (nat_lt length 104)
-    ∷ rule Magic (not (h.magic == 0x514649fb))
+    ∷ rule Magic (not (h.magic == qcow2_magic))
     ∷ rule Version (not (h.version == 3))
     ∷ rule HeaderLength (nat_lt h.header_length 104 || nat_lt 504 h.header_length || not (h.header_length % 8 == 0))
     ∷ rule ClusterBits (not (is_bits h.cluster_bits))

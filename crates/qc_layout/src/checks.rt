@@ -3,7 +3,7 @@
 ghost use Rattle.std.specs.Prelude.{◌≡◌, ◌<◌, ◌≤◌, ◌^◌, ◌*◌, ◌%◌, ◌||◌, ◌==◌, not, nat_lt};
 ghost use Rattle.qc_layout.specs.Header.{is_bits, is_size, is_place, is_disk, l1_needed, has_bit, first_of, form_rules, feature_rules, table_rules, number_fault};
 
-use crate::header::{Fields, HeaderFault, Part};
+use crate::header::{Fields, HeaderFault, Part, QCOW_MAGIC};
 
 /// Whether a bit is set.
 pub(crate) fn has_bit(number: u64, bit: u32) -> bool
@@ -50,7 +50,7 @@ pub(crate) fn form_fault(length: u64, fields: &Fields) -> Option<HeaderFault>
     if length < 104 {
         return Some(HeaderFault::Short);
     }
-    if fields.magic != 0x514649fb {
+    if fields.magic != QCOW_MAGIC {
         return Some(HeaderFault::Magic);
     }
     if fields.version != 3 {

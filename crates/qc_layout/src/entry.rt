@@ -1,7 +1,16 @@
 //! The entries of an image's two levels of tables.
 
 ghost use Rattle.std.specs.Prelude.{◌≡◌, ◌≤◌, ◌<◌, ◌^◌, ℕ, Ok};
-ghost use Rattle.qc_layout.specs.Entries.{l1_of, l2_of, l2_word, IsWritable};
+ghost use Rattle.qc_layout.specs.Entries.{offset_in, l1_of, l2_of, l2_word, IsWritable};
+
+/// Bit 63 of an entry: the refcount is one.
+pub const OFLAG_COPIED: u64 = 1 << 63;
+
+/// Bit 62 of an entry of the second level: the cluster is compressed.
+pub const OFLAG_COMPRESSED: u64 = 1 << 62;
+
+/// Bit 0 of an entry of the second level: the cluster reads as zeros.
+pub const OFLAG_ZERO: u64 = 1;
 
 /// Why an entry of a table is refused.
 #[derive(Clone, Copy, Debug, PartialEq, Eq)]
@@ -25,6 +34,13 @@ pub enum L2Entry {
     Compressed,
 }
 
+/// The offset in an entry: its bits 9 to 55.
+fn offset_in(entry: u64) -> u64
+    ensures { result ≡ offset_in entry }
+{
+    entry / 512 % (1 << 47) * 512
+}
+
 /// What a word of the first-level table says: the offset of a second-level table, or none. `cluster_bits` is from 9 to 21.
 ///
 /// qcow2 specification, "L1 table entry". Bits 0 to 8 and 56 to 62 are reserved; bit 63 isn't tested.
@@ -37,7 +53,7 @@ pub fn read_l1(entry: u64, cluster_bits: u32) -> Result<Option<u64>, EntryFault>
     if entry % 512 != 0 || entry / (1 << 56) % 128 != 0 {
         return Err(EntryFault::Reserved);
     }
-    let offset = entry / 512 % (1 << 47) * 512;
+    let offset = offset_in(entry);
     if offset % (1 << cluster_bits) != 0 {
         return Err(EntryFault::Misaligned);
     }
@@ -58,19 +74,19 @@ pub fn read_l2(entry: u64, cluster_bits: u32) -> Result<L2Entry, EntryFault>
     requires high { cluster_bits ≤ 21 }
     ensures { result ≡ l2_of cluster_bits entry }
 {
-    if entry / (1 << 62) % 2 == 1 {
+    if entry / OFLAG_COMPRESSED % 2 == 1 {
         return Ok(L2Entry::Compressed);
     }
     if entry / 2 % 256 != 0 || entry / (1 << 56) % 64 != 0 {
         return Err(EntryFault::Reserved);
     }
-    let offset = entry / 512 % (1 << 47) * 512;
+    let offset = offset_in(entry);
     if offset % (1 << cluster_bits) != 0 {
         return Err(EntryFault::Misaligned);
     }
     if offset == 0 {
         Ok(L2Entry::Hole)
-    } else if entry % 2 == 1 {
+    } else if entry % 2 == OFLAG_ZERO {
         Ok(L2Entry::Zero(offset))
     } else {
         Ok(L2Entry::Stored(offset))
@@ -89,8 +105,8 @@ pub fn write_l2(entry: L2Entry) -> u64
 {
     match entry {
         L2Entry::Hole => 0,
-        L2Entry::Zero(offset) => (offset | 1) | 1 << 63,
-        L2Entry::Stored(offset) => offset | 1 << 63,
-        L2Entry::Compressed => 1 << 62,
+        L2Entry::Zero(offset) => (offset | OFLAG_ZERO) | OFLAG_COPIED,
+        L2Entry::Stored(offset) => offset | OFLAG_COPIED,
+        L2Entry::Compressed => OFLAG_COMPRESSED,
     }
 }

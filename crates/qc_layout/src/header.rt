@@ -2,6 +2,9 @@
 
 use span_algebra::Bytes;
 
+/// What a qcow2 image begins with.
+pub const QCOW_MAGIC: u32 = 0x514649fb;
+
 /// As what a header is read.
 #[derive(Clone, Copy, Debug, PartialEq, Eq)]
 pub enum Part {

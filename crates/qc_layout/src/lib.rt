@@ -18,8 +18,10 @@ mod records;
 mod tests;
 mod writing;
 
-pub use entry::{EntryFault, L2Entry, read_l1, read_l2, write_l2};
-pub use header::{DirPlace, Fields, Header, HeaderFault, Own, Part};
+pub use entry::{
+    EntryFault, L2Entry, OFLAG_COMPRESSED, OFLAG_COPIED, OFLAG_ZERO, read_l1, read_l2, write_l2,
+};
+pub use header::{DirPlace, Fields, Header, HeaderFault, Own, Part, QCOW_MAGIC};
 pub use kind::{kind_of, start_length};
 pub use reading::read_header;
 pub use records::{Record, RecordFault, State, read_record, write_record};

@@ -2,11 +2,11 @@
 
 ghost use Rattle.std.specs.Prelude.{◌≡◌, ◌≤◌, ◌<◌, ◌+◌, ◌^◌, ◌++◌, ℕ, List, Ok, Err, Some, None, length, take, drop, not, ◌&&◌, ◌||◌, ◌==◌, nat_lt, MatchResult};
 ghost use Rattle.std.specs.Int.{to_be_bytes, w32, w64};
-ghost use Rattle.disk_model.specs.Files.{reading, u32_at, u64_at};
 ghost use Rattle.qc_layout.specs.Records.{record_fault, record_of, record_bytes, state_in, kind_in, unit_in, base_in, point_in, state_number, kind_number, claim_bytes, base_bytes, point_bytes};
 ghost use Rattle.span_algebra.specs.declared.points.Point.{Point};
 ghost use Rattle.span_algebra.specs.declared.spans.Base.TheVariants.{Since};
 
+use crate::numbers::{array_at, number_32, number_64};
 use span_algebra::{Base, Point};
 
 /// How far a backup has come.
@@ -54,10 +54,10 @@ pub fn read_record(bytes: &[u8; 64], cluster_bits: u32) -> Result<Record, Record
         (λ r. (record_fault cluster_bits bytes.now ≡ None) × (r ≡ record_of bytes.now))
         (λ fault. record_fault cluster_bits bytes.now ≡ Some fault) }
 {
-    let state = number32(bytes, 4);
-    let kind = number32(bytes, 8);
-    let unit = number32(bytes, 12);
-    if number32(bytes, 0) != 1 {
+    let state = number_32(bytes, 4);
+    let kind = number_32(bytes, 8);
+    let unit = number_32(bytes, 12);
+    if number_32(bytes, 0) != 1 {
         return Err(RecordFault::RecordVersion);
     }
     if state > 2 {
@@ -90,7 +90,7 @@ fn said(bytes: &[u8; 64], state: u32, kind: u32, unit: u32) -> Record
     if state == 2 {
         return Record {
             state: State::Sealed,
-            disk: id_in(bytes),
+            disk: array_at(bytes, 16),
             base: base_in(bytes, kind),
             point: point_in(bytes, 48),
             unit,
@@ -112,15 +112,6 @@ fn said(bytes: &[u8; 64], state: u32, kind: u32, unit: u32) -> Record
     }
 }
 
-/// The id of the disk in a sealed record.
-fn id_in(bytes: &[u8; 64]) -> [u8; 16]
-    ensures { result ≡ reading bytes.now 16 16 }
-{
-    let mut id = [0; 16];
-    id.copy_from_slice(&bytes[16..32]);
-    id
-}
-
 /// The base that a sealed record of this kind has.
 fn base_in(bytes: &[u8; 64], kind: u32) -> Base
     requires { kind ≡ kind_in bytes.now }
@@ -134,39 +125,14 @@ fn base_in(bytes: &[u8; 64], kind: u32) -> Base
 }
 
 /// The point at an offset.
-fn point_in(bytes: &[u8; 64], at: usize) -> Point
+fn point_in(bytes: &[u8; 64], at: u64) -> Point
     requires { at + 16 ≤ 64 }
     ensures { result ≡ point_in bytes.now at }
 {
     Point {
-        epoch: number64(bytes, at),
-        serial: number64(bytes, at + 8),
+        epoch: number_64(bytes, at),
+        serial: number_64(bytes, at + 8),
     }
-}
-
-/// The number of four bytes at an offset.
-fn number32(bytes: &[u8; 64], at: usize) -> u32
-    requires { at + 4 ≤ 64 }
-    ensures { result ≡ u32_at bytes.now at }
-{
-    u32::from_be_bytes([bytes[at], bytes[at + 1], bytes[at + 2], bytes[at + 3]])
-}
-
-/// The number of eight bytes at an offset.
-fn number64(bytes: &[u8; 64], at: usize) -> u64
-    requires { at + 8 ≤ 64 }
-    ensures { result ≡ u64_at bytes.now at }
-{
-    u64::from_be_bytes([
-        bytes[at],
-        bytes[at + 1],
-        bytes[at + 2],
-        bytes[at + 3],
-        bytes[at + 4],
-        bytes[at + 5],
-        bytes[at + 6],
-        bytes[at + 7],
-    ])
 }
 
 /// The bytes that say this; what is unused is written as zeros.
