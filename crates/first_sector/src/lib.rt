@@ -26,11 +26,11 @@ pub fn rewrite_first_sector<D: Depot>(
     ensures settled { OnOk result (IsSettled (file_of (D.world depot.new) file.0)) }
 
     // Up to the first sync a crash leaves what it might have left before; from then on the file with the old sector or with the new one.
-    ensures crash { 512 ≤ length (file_of (D.world depot.old) file.0).bytes →
+    ensures crash { Gives (file_of (D.world depot.old) file.0) (λ c. 512 ≤ length c) →
         EachSinceSync (D.world depot.old) (D.world depot.new) file.0 (OldOrNew sector.now (file_of (D.world depot.old) file.0)) }
 
     // Whatever the call answers, reads give the one or the other.
-    ensures seen { 512 ≤ length (file_of (D.world depot.old) file.0).bytes →
+    ensures seen { Gives (file_of (D.world depot.old) file.0) (λ c. 512 ≤ length c) →
         Gives (file_of (D.world depot.new) file.0) (OldOrNew sector.now (file_of (D.world depot.old) file.0)) }
 
     ensures puts { Puts file.0 (D.world depot.old) (D.world depot.new) result }

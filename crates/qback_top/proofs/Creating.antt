@@ -29,12 +29,12 @@ touched_none name run = inl (run_more (nothing_within only_text) run)
 pub touched_failed : {a b : World} (name : List ℕ) → Refuses name a b Failed → MakesAlone name a b
 touched_failed {a} {b} name refuses = ⊎_elim
     (λ (none : Runs nothing a b). touched_none name none)
-    (λ (some : Begins name a b). inr (some.0, some.1.fresh, run_more (making_within name some.0) some.1.run))
+    (λ (some : Begins name a b). inr (some.0, some.1.fresh, run_more (making_within name some.0) some.1.run, some.1.named))
     refuses.0
 
 -- a file was made, and then something was printed
 pub touched_made : {P : List ℕ → Type 0} {a b c : World} (name : List ℕ) (f : ℕ) → HasCreated P name f a b → Runs only_text b c → MakesAlone name a c
-touched_made name f made print = inr (f, made.fresh, run_both (making_within name f) (text_within name f) made.run print)
+touched_made name f made print = inr (f, made.fresh, run_both (making_within name f) (text_within name f) made.run print, made.named)
 
 -- what a file holds goes on over prints
 holds_on : {f : ℕ} {S P : List ℕ → Type 0} {b c : World} → Runs only_text b c → Holds f S P b → Holds f S P c
@@ -63,6 +63,8 @@ module _ (task : Task) (name : List ℕ) (makes : Makes task name) (words : List
           (λ (some : Begins name a b). begun some.0 is (record {
             makes = makes;
             fresh = some.1.fresh;
+            named = some.1.named;
+            found = some.1.found;
             run = run_more (making_within name some.0) some.1.run;
             printed = part_none (made_line name) a b ((some.1.run.text (λ none. none)).printed);
             first = λ prints. inl ((some.1.run.text (λ none. none)).printed);
@@ -81,6 +83,8 @@ module _ (task : Task) (name : List ℕ) (makes : Makes task name) (words : List
     unsaid_stops part = begun f (made.was_free told) (record {
       makes = makes;
       fresh = made.fresh;
+      named = made.named;
+      found = λ _. inr (made.was_free told, print.found name (λ none. none) ∙ made.found told);
       run = run_both (making_within name f) (text_within name f) made.run print;
       printed = λ prints. let p = part (prints_as prints) in (p.0, subst (λ (t : List ℕ). c.printed ≡ t ++ take p.0 (made_line name)) printed_as p.1);
       first = λ prints. inr (holds_on print (holds_of made.holds));
@@ -93,6 +97,7 @@ module _ (task : Task) (name : List ℕ) (makes : Makes task name) (words : List
       record {
         makes = makes;
         fresh = made.fresh;
+        named = made.named;
         run = run_both (making_within name f) (text_within name f) made.run print;
         given = given_on print made.given;
         found = λ _. print.found name (λ none. none) ∙ made.found told;

@@ -1,5 +1,5 @@
 -- A run that came to its end as was due, and was reported, ends as is due.
-use Rattle.std.proofs.Common.{◌≡◌, inl, inr, ⊎_elim, ℕ, List, map, IsTrue, sym, subst}
+use Rattle.std.proofs.Common.{◌≡◌, ◌<◌, inl, inr, ⊎_elim, ℕ, List, map, IsTrue, sym, subst}
 use Rattle.disk_model.specs.World.{World, Runs, IsNameless, only_text}
 use Rattle.disk_model.proofs.Laws.{Within, run_more, run_on, stay}
 use Rattle.qback_top.specs.declared.end.End.{End}
@@ -77,7 +77,7 @@ names_then_text name other a b c work print = run_on (names_later name other wor
 made_then_text : (name : List ℕ) (a b c : World) → MakesAlone name a b → Runs only_text b c → MakesAlone name a c
 made_then_text name a b c made print = ⊎_elim
     (λ (text : Runs only_text a b). inl (run_on text print))
-    (λ (file : (f : ℕ) × (IsTrue a.tells → IsNameless a f) × Runs (creates name f) a b). inr (file.0, file.1, run_on file.2 (run_more (text_within_creates name file.0) print)))
+    (λ (file : (f : ℕ) × (IsTrue a.tells → IsNameless a f) × Runs (creates name f) a b × (f < a.given → a.named f ≡ name)). inr (file.0, file.1, run_on file.2 (run_more (text_within_creates name file.0) print), file.3))
     made
 
 pub touched_then_text : (task : Task) (a b c : World) → TouchesBy task a b → Runs only_text b c → TouchesBy task a c

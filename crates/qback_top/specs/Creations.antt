@@ -1,5 +1,5 @@
 -- `create-source` and `create-target`: which end is due, and what is left.
-use Rattle.std.specs.Prelude.{◌≡◌, ◌⊎◌, ℕ, List, ◌++◌, IsTrue, IsSome, Some, None, codes}
+use Rattle.std.specs.Prelude.{◌≡◌, ◌⊎◌, ◌<◌, ℕ, List, ◌++◌, IsTrue, IsSome, Some, None, codes}
 use Rattle.disk_model.specs.World.{World, Runs, IsGiven, IsNameless, Holds, PrintsPart}
 use Rattle.backup_file.specs.Made.{IsNewSource, IsNewTarget}
 use Rattle.qback_top.specs.declared.words.Task.{Task}
@@ -32,16 +32,19 @@ made_line name = codes "made " ++ name ++ codes "\n"
 pub record Created (task : Task) (name : List ℕ) (f : ℕ) (old new : World) : Type 0 where
   pub makes : Makes task name
   pub fresh : IsTrue old.tells → IsNameless old f
+  pub named : f < old.given → old.named f ≡ name
   pub run : Runs (creates name f) old new
   pub given : IsGiven f name new
   pub found : IsTrue old.tells → new.found name ≡ Some f
   pub holds : Holds f (IsMadeBy task) (IsMadeBy task) new
   pub printed : IsTrue old.prints → new.printed ≡ old.printed ++ made_line name
 
--- A file of this name may have been begun, where none was there. A part of its line was printed, none before it was whole.
+-- A file of this name may have been begun, where none was there; the name is free still, or is that file's. A part of its line was printed, none before it was whole.
 pub record CreatedInPart (task : Task) (name : List ℕ) (f : ℕ) (old new : World) : Type 0 where
   pub makes : Makes task name
   pub fresh : IsTrue old.tells → IsNameless old f
+  pub named : f < old.given → old.named f ≡ name
+  pub found : IsTrue old.tells → (new.found name ≡ old.found name) ⊎ ((old.found name ≡ None) × (new.found name ≡ Some f))
   pub run : Runs (creates name f) old new
   pub printed : PrintsPart (made_line name) old new
   pub first : IsTrue old.prints → (new.printed ≡ old.printed) ⊎ Holds f (IsMadeBy task) (IsMadeBy task) new

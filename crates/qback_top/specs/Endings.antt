@@ -1,5 +1,5 @@
 -- How a run may end, and what it prints then.
-use Rattle.std.specs.Prelude.{◌≡◌, ◌⊎◌, ℕ, List, [], ◌++◌, IsTrue, codes}
+use Rattle.std.specs.Prelude.{◌≡◌, ◌⊎◌, ◌<◌, ℕ, List, [], ◌++◌, IsTrue, codes}
 use Rattle.std.specs.Fmt.{decimal}
 use Rattle.disk_model.specs.World.{World, Parts, only_text, Runs, IsGiven, IsNameless, PrintsPart, Rose}
 use Rattle.script_model.specs.Lines.{Line}
@@ -69,9 +69,9 @@ works_on_names name other w = record { files = λ g. IsGiven g name w; reads = �
 abbrev pub creates : List ℕ → ℕ → Parts
 creates name f = record { files = λ g. g ≡ f; reads = λ g. ⊥; names = λ other. other ≡ name; text = Unit {0}; wire = ⊥ }
 
--- nothing was touched but the text, or besides it a file of this name that was made, perhaps in part, and was that of no name before
+-- nothing was touched but the text, or besides it a file of this name that was made, perhaps in part, and was that of no other name before
 abbrev pub MakesAlone : List ℕ → World → World → Type 0
-MakesAlone name old new = Runs only_text old new ⊎ ((f : ℕ) × (IsTrue old.tells → IsNameless old f) × Runs (creates name f) old new)
+MakesAlone name old new = Runs only_text old new ⊎ ((f : ℕ) × (IsTrue old.tells → IsNameless old f) × Runs (creates name f) old new × (f < old.given → old.named f ≡ name))
 
 -- ---- what is printed
 
