@@ -10,7 +10,7 @@ if [ ! -x "$program" ]; then
     exit 1
 fi
 work=$(mktemp -d)
-trap 'umount "$work/disk" 2>/dev/null; rm -rf "$work"' EXIT
+trap 'umount "$work"/{disk,left,right} 2>/dev/null; rm -rf "$work"' EXIT
 cd "$work" || exit 1
 id=00112233445566778899AABBCCDDEEFF
 seconds=10 # after which a run counts as waiting
@@ -99,8 +99,10 @@ commands() {
     says 2 'file small Short\n' info small
     head -c 200 /dev/zero >zeros
     says 2 'file zeros Magic\n' info zeros
+    says 2 'file s/below Missing\n' info s/below
     same s kept 'by info'
     says 3 'device\n' create-source missing/s 512 9 $id
+    says 3 'device\n' create-source s/below 512 9 $id
     says 0 'made big\n' create-source big 1099511627776 16 $id
     [ "$(stat -c %s big)" = 262144 ] || fail "the largest disk's file has another length"
 }
@@ -209,6 +211,15 @@ full_disk() {
     says 0 'made disk/big\n' create-source disk/big 1099511627776 16 $id
 }
 
+# Two files of one number on two file systems are two.
+two_disks() {
+    mkdir left right
+    has 'two file systems, which may not be mounted' eval 'mount -t tmpfs left left && mount -t tmpfs right right' || return
+    cp s left/s && cp reads right/reads
+    has 'two files of one number' [ "$(stat -c %i left/s)" = "$(stat -c %i right/reads)" ] || return
+    says 0 'data 00aabb00\nok\n' replay left/s right/reads
+}
+
 # What reaches the host: a file's locks, syncs of the very file and folder, and none but the due order.
 calls() {
     local file='[0-9]+<[^>]*/folder/n>' folder='[0-9]+<[^>]*/folder>'
@@ -225,7 +236,8 @@ calls() {
 
 # Faults of the host.
 faults() {
-    for fault in fsync:error=EIO:when=1 fsync:error=EIO:when=2 fdatasync:error=EIO pwrite64:error=ENOSPC flock:error=EIO; do
+    for fault in fsync:error=EIO:when=1 fsync:error=EIO:when=2 fdatasync:error=EIO pwrite64:error=ENOSPC pwrite64:retval=0 \
+        flock:error=EIO flock:error=EAGAIN; do
         before="broken $fault" says 3 'device\n' create-source o 16384 12 $id
         gone o "$fault"
     done
@@ -236,6 +248,18 @@ faults() {
         before="broken $fault" says 0 'ok\nok\n' replay s again
     done
     before='broken flock:error=ENOLCK' says 0 'made o\n' create-source o 16384 12 $id
+    for fault in EACCES EROFS; do
+        before="broken openat:error=$fault:when=1 -P reads" says 0 'data 00aabb00\nok\n' replay s reads
+    done
+}
+
+# The host takes fewer bytes than it was given: of a file its first 100 stay zeros, of a text its first 5 are missing.
+short_counts() {
+    before='broken pwrite64:retval=100:when=1' says 0 'made short\n' create-source short 16384 12 $id
+    { head -c 100 /dev/zero && tail -c +101 quiet; } >due
+    same short due 'by a write that was cut short'
+    before='broken write:retval=5:when=1' says 0 'source\nsize 16384\ncluster 4096\nid 00112233445566778899aabbccddeeff\nepoch 0\n' info quiet
+    before='broken write:retval=0' says 3 '' info quiet
 }
 
 # Once a command succeeds, puts a file in place of another.
@@ -269,5 +293,6 @@ two_names
 streams
 full_files
 full_disk
-has 'calls on the host: strace' strace -o /dev/null true && calls && faults && exchanges
+two_disks
+has 'calls on the host: strace' strace -o /dev/null true && calls && faults && short_counts && exchanges
 echo "files: $count runs of the program on real files are as due"

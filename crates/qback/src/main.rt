@@ -8,6 +8,8 @@ mod locks;
 mod opening;
 mod real;
 mod table;
+#[cfg(test)]
+mod tests;
 
 use real::RealDepot;
 use std::alloc::AllocError;

@@ -8,7 +8,7 @@ use crate::table::Table;
 use disk_model::{Console, Depot, Failed, FileNo, Made, Outside};
 use std::alloc::{AllocError, Global};
 use std::fs::File;
-use std::io::ErrorKind;
+use std::io::{self, ErrorKind};
 use std::rt::Files;
 
 /// The files of the host, by their places in a table of those opened, and its standard output.
@@ -49,6 +49,11 @@ impl<R: Files<File = File> + Print + Drop> Drop for RealDepot<R> {
             table: _,
         } = self;
     }
+}
+
+/// Whether an error says that there is no file of this name, be it below a regular file.
+fn tells_no_file(error: &io::Error) -> bool {
+    error.kind() == ErrorKind::NotFound || error.kind() == ErrorKind::NotADirectory
 }
 
 /// Prints all of the bytes.
@@ -96,7 +101,7 @@ impl<R: Files<File = File> + Print + Drop> Depot for RealDepot<R> {
                 self.table.add(opening, name);
                 Ok(Some(file))
             }
-            Err(error) if error.kind() == ErrorKind::NotFound => Ok(None),
+            Err(error) if tells_no_file(&error) => Ok(None),
             Err(_) => Err(self.table.fault()),
         }
     }
