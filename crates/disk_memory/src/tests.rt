@@ -76,53 +76,78 @@ fn moments_are_counted(rt: HostRuntime) {
     assert_eq!(rt; host.file("disk"), Some(b"12abc".as_slice()));
 }
 
-// Makes a file of two sectors, all of it synced, writes both, writes the second and two bytes more, and syncs that.
+// Writes all of a file of three sectors and a byte, its first sector again, and syncs it; writes its last byte and four
+// more, and the byte of another file, and syncs the first.
 fn write_by_turns(host: &mut MemoryHost) -> Result<(), Failed> {
-    let Made::New(file) = host.make("disk")? else {
+    let Made::New(disk) = host.make("disk")? else {
         return Err(Failed);
     };
-    host.write_at(file, 0, &[b'a'; 1024])?;
-    host.sync(file)?;
-    host.write_at(file, 0, &[b'b'; 1024])?;
-    host.write_at(file, 512, &[b'c'; 514])?;
-    host.sync(file)?;
+    let Made::New(copy) = host.make("copy")? else {
+        return Err(Failed);
+    };
+    host.write_at(disk, 0, &[b'a'; 1537])?;
+    host.sync(disk)?;
+    host.write_at(disk, 0, &[b'b'; 1537])?;
+    host.write_at(disk, 0, &[b'c'; 512])?;
+    host.sync(disk)?;
+    host.write_at(disk, 1536, b"ddddd")?;
+    host.write_at(copy, 0, b"e")?;
+    host.sync(disk)?;
     host.print(b"done")
 }
 
-// A file by a word: a letter for each of two sectors, and then its last bytes.
-fn spelled(alloc: Global, word: &[u8]) -> Result<Vec<u8>, Memory> {
-    let mut file = Vec::new(alloc);
-    if let [first, second, rest @ ..] = word {
-        file.resize(512, *first)?;
-        file.resize(1024, *second)?;
-        file.extend_from_slice(rest)?;
-    }
-    Ok(file)
+// Two words as one.
+fn joined(alloc: Global, disk: &[u8], copy: &[u8]) -> Result<Vec<u8>, Memory> {
+    let mut word = Vec::new(alloc);
+    word.extend_from_slice(disk)?;
+    word.push(b'/')?;
+    word.extend_from_slice(copy)?;
+    Ok(word)
 }
 
-fn all_spelled(alloc: Global, words: &str) -> Result<Vec<Vec<u8>>, Memory> {
-    let mut files = Vec::new(alloc);
-    for word in words.split(' ') {
-        files.push(spelled(alloc, word.as_bytes())?)?;
+// Both files as a word: of the first the letter of each of its sectors, and what is behind the start of the fourth.
+fn word_of(alloc: Global, left: &MemoryHost) -> Result<Vec<u8>, Memory> {
+    let disk = left.file("disk").unwrap_or(b"none");
+    let copy = left.file("copy").unwrap_or(b"none");
+    let mut word = Vec::new(alloc);
+    for sector in disk.chunks(512) {
+        word.extend_from_slice(sector.get(..1).unwrap_or(b""))?;
     }
-    Ok(files)
+    word.extend_from_slice(disk.get(1537..).unwrap_or(b""))?;
+    joined(alloc, &word, copy)
 }
 
-// How many of these files the choices from 0 on leave at a moment; none where a choice leaves another.
+// Adds one word of the first file with each of the second.
+fn add_each(alloc: Global, due: &mut Vec<Vec<u8>>, disk: &str, copies: &str) -> Result<(), Memory> {
+    for copy in copies.split(' ') {
+        due.push(joined(alloc, disk.as_bytes(), copy.as_bytes())?)?;
+    }
+    Ok(())
+}
+
+// Each word of the first file with each of the second.
+fn all_due(alloc: Global, disks: &str, copies: &str) -> Result<Vec<Vec<u8>>, Memory> {
+    let mut due = Vec::new(alloc);
+    for disk in disks.split(' ') {
+        add_each(alloc, &mut due, disk, copies)?;
+    }
+    Ok(due)
+}
+
+// How many of these the choices from 0 on leave at a moment; none where a choice leaves another.
 fn count_reached(
     alloc: Global,
     host: &MemoryHost,
     moment: u64,
-    files: &[Vec<u8>],
+    due: &[Vec<u8>],
 ) -> Result<usize, Memory> {
-    let mut reached = vec![in alloc; false; files.len()]?;
-    for choice in 0..1500 {
+    let mut reached = vec![in alloc; false; due.len()]?;
+    for choice in 0..(due.len() as u64).saturating_mul(30) {
         if !host.keeps_calls() || moment >= host.moments() {
             return Ok(0);
         }
-        let left = host.pick_outcome(moment, choice)?;
-        let bytes = left.file("disk").unwrap_or(b"none");
-        match files.iter().position(|file| file.as_slice() == bytes) {
+        let word = word_of(alloc, &host.pick_outcome(moment, choice)?)?;
+        match due.iter().position(|one| one.as_slice() == word.as_slice()) {
             Some(at) if at < reached.len() => reached[at] = true,
             _ => return Ok(0),
         }
@@ -135,24 +160,25 @@ fn a_crash_leaves_each_mixture(rt: HostRuntime) {
     let alloc = rt.alloc();
     let mut host = MemoryHost::new(alloc, true).expect(&rt, "memory");
     assert_eq!(rt; write_by_turns(&mut host), Ok(()));
-    let mixed = "aa ab ac ba bb bc \
-        aa\0 ab\0 ac\0 ba\0 bb\0 bc\0 aac abc acc bac bbc bcc \
-        aa\0\0 ab\0\0 ac\0\0 ba\0\0 bb\0\0 bc\0\0 aacc abcc accc bacc bbcc bccc";
-    let due = [
-        (1, "", 1),
-        (4, "aa", 1),
-        (5, "aa ab ba bb", 4),
-        (6, "aa ab ba bb", 4),
-        (7, mixed, 30),
-        (8, mixed, 30),
-        (9, "bccc", 1),
+    let once = "aaaa aaab aaba aabb abaa abab abba abbb baaa baab baba babb bbaa bbab bbba bbbb";
+    let twice = "aaaa aaab aaba aabb abaa abab abba abbb baaa baab baba babb bbaa bbab bbba bbbb \
+        caaa caab caba cabb cbaa cbab cbba cbbb";
+    let longer = "cbbb cbbb\0 cbbb\0\0 cbbb\0\0\0 cbbb\0\0\0\0 cbbd cbbdd cbbddd cbbdddd cbbddddd";
+    let cases = [
+        (2, "", "", 1),
+        (5, "aaaa", "", 1),
+        (6, once, "", 16),
+        (9, twice, "", 24),
+        (10, "cbbb", "", 1),
+        (13, longer, " \0 e", 30),
+        (15, "cbbddddd", " \0 e", 3),
     ];
-    for (moment, words, count) in due {
-        let files = all_spelled(alloc, words).expect(&rt, "memory");
-        let reached = count_reached(alloc, &host, moment, &files).expect(&rt, "memory");
+    for (moment, disks, copies, count) in cases {
+        let due = all_due(alloc, disks, copies).expect(&rt, "memory");
+        let reached = count_reached(alloc, &host, moment, &due).expect(&rt, "memory");
         assert_eq!(rt; reached, count, "at {moment}");
     }
-    assert_eq!(rt; host.moments(), 10);
+    assert_eq!(rt; host.moments(), 16);
 }
 
 // Writes to a file within the room that was reserved, and syncs it.
