@@ -6,7 +6,7 @@ use Rattle.std.proofs.lemmas.List.{get_or_push, length_push, take-append-drop}
 use Rattle.std.proofs.lemmas.Grind.{common_steps}
 use Rattle.disk_memory.specs.Held.{Change, FilePut, replay, upto, Held, number_of, world_of, IsKept}
 use Rattle.disk_memory.specs.Steps.{noted, with_file, with_some}
-use Rattle.disk_memory.specs.Laws.{number_found}
+use Rattle.disk_memory.specs.Laws.{number_found, all_of}
 use Rattle.disk_memory.specs.Outcomes.{IsPick, IsPicked, IsUnfailed, IsLeft, files_of, below}
 use Rattle.disk_memory.proofs.Names.{push_before, number_or_none}
 use Rattle.disk_memory.proofs.Changes.{replay-append, here, elsewhere, replay_some, upto_now}
@@ -122,13 +122,16 @@ module _ (choice k : ℕ) (old new : Held) (kept : IsKept old) (kept_new : IsKep
   file_at : (f : ℕ) (file : List ℕ) → files_of (world_of new) f ≡ Some file → (f < end) × (get_or new.contents f [] ≡ file)
   file_at f file is = grind (arith, common_steps)
 
+  past_end : (f : ℕ) → files_of (world_of new) f ≡ None → end ≤ f
+  past_end f none = elim (cases_lt f end) [
+    | inl low ↦ let some : Some (get_or new.contents f []) ≡ None = ap (λ (b : Bool). if b then Some (get_or new.contents f []) else None) (sym (lt-ltb f end low)) ∙ none in absurd (cc)
+    | inr past ↦ past
+  ]
+
   absent_of : (f : ℕ) → files_of (world_of new) f ≡ None → upto old.changes k f ≡ []
-  absent_of f is = elim (cases_lt f end) [
-    | inl low ↦ let some : Some (get_or new.contents f []) ≡ None = ap (λ (b : Bool). if b then Some (get_or new.contents f []) else None) (sym (lt-ltb f end low)) ∙ is in absurd (cc)
-    | inr past ↦ elim (cases_lt f (length old.names)) [
-      | inl there ↦ was.absent f past there
-      | inr out ↦ absent_before old.changes k f (((kept.replayed told).files f).absent (omega (arith, kept.contents, out)))
-    ]
+  absent_of f is = elim (cases_lt f (length old.names)) [
+    | inl there ↦ was.absent f (past_end f is) there
+    | inr out ↦ absent_before old.changes k f (((kept.replayed told).files f).absent (omega (arith, kept.contents, out)))
   ]
 
   found_of : (name : List ℕ) (a b : Option ℕ) → number_of new.names name ≡ a → number_of old.names name ≡ b → a ≡ below end b
@@ -157,7 +160,14 @@ module _ (choice k : ℕ) (old new : Held) (kept : IsKept old) (kept_new : IsKep
   pub is_left : IsLeft choice k (world_of old) (world_of new)
   is_left = record {
     left = record { there = λ f file is. let at = file_at f file is in (subst (IsPick choice (upto old.changes k f)) at.1 (was.picked f at.0)).outcome; absent = λ f is. absent_of f is };
-    begins = record { seen = λ f file is. (file_at f file is).1; settled = λ f file is. let at = file_at f file is in inr (was.settled f at.0 ∙ ap (λ (l : List ℕ). l ∷ []) at.1) };
+    begins = record {
+      seen = λ f file told is. (file_at f file is).1;
+      settled = λ f file is. let at = file_at f file is in
+          was.settled f at.0 ∙ ap (λ (l : List ℕ). l ∷ []) at.1 ∙ sym (ap (λ (b : Bool). if b then file ∷ [] else []) was.keeps);
+      absent = λ f none. all_of new.changes f ∙ ((kept_new.replayed was.keeps).files f).absent (omega (arith, kept_new.contents, past_end f none));
+      found = λ name f file told is in_old. found_of name (number_of new.names name) (number_of old.names name) refl refl
+          ∙ ap (below end) in_old ∙ ap (λ (t : Bool). if t then Some f else None) (lt-ltb f end (file_at f file is).0);
+    };
     first = λ zero f low. (was.picked f low).first zero;
     last = λ one f low. (was.picked f low).last one;
     named = λ f low. (omega (arith, low, was.many), was.named f low);

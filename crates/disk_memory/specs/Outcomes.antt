@@ -55,7 +55,7 @@ pub record IsUnfailed (faults : Faults) : Type 0 where
 -- nothing is printed and no call failed. At choice 0 what was synced, at choice 1 what reads gave.
 pub record IsLeft (choice moment : ℕ) (old new : World) : Type 0 where
   pub left : IsLeftAt old moment (files_of new)
-  pub begins : BeginsWith (files_of new) new
+  pub begins : BeginsWith old (files_of new) new
   pub first : choice ≡ 0 → (f : ℕ) → f < new.given → new.seen f ≡ synced (old.past moment f)
   pub last : choice ≡ 1 → (f : ℕ) → f < new.given → new.seen f ≡ latest (old.past moment f)
   pub named : (f : ℕ) → f < new.given → (f < old.given) × (new.named f ≡ old.named f)

@@ -274,10 +274,13 @@ pub record Leads (f : ℕ) (S P R T Q : List ℕ → Type 0) (old new : World) :
   pub since : Holds f S P old → EachSince new old.now f R
   pub after : Holds f S P old → Holds f T Q new
 
--- A world begins with what a crash left: reads give that, and nothing is left to be lost.
-pub record BeginsWith (left : ℕ → Option (List ℕ)) (w : World) : Type 0 where
-  pub seen : (f : ℕ) (c : List ℕ) → left f ≡ Some c → w.seen f ≡ c
-  pub settled : (f : ℕ) (c : List ℕ) → left f ≡ Some c → (versions w f ≡ []) ⊎ (versions w f ≡ c ∷ [])
+-- A world begins with what a crash left of an earlier one: reads give that, where files are told, under the names that they had; nothing is
+-- left to be lost, and no other file is there.
+pub record BeginsWith (old : World) (left : ℕ → Option (List ℕ)) (w : World) : Type 0 where
+  pub seen : (f : ℕ) (c : List ℕ) → IsTrue w.tells → left f ≡ Some c → w.seen f ≡ c
+  pub settled : (f : ℕ) (c : List ℕ) → left f ≡ Some c → versions w f ≡ if w.outcomes then c ∷ [] else []
+  pub absent : (f : ℕ) → left f ≡ None → versions w f ≡ []
+  pub found : (name : List ℕ) (f : ℕ) (c : List ℕ) → IsTrue w.tells → left f ≡ Some c → old.found name ≡ Some f → w.found name ≡ Some f
 
 -- ---- faults
 
