@@ -9,10 +9,11 @@ use Rattle.qc_layout.specs.Room.{HasRoom}
 use Rattle.plain_model.specs.History.{History, IsHistory, now}
 use Rattle.plain_model.specs.Machine.{Machine, Opening, opened}
 use Rattle.plain_model.specs.Closing.{stored_by}
-use Rattle.plain_model.specs.Records.{Backup, Sealed}
+use Rattle.image_model.specs.Backups.{Backup, Sealed}
 use Rattle.plain_model.specs.Lawful.{Kept, settle}
 use Rattle.plain_model.specs.Laws.{IsLikeDisk, IsLawfulOpening}
-use Rattle.core_node.specs.Files.{IsSourceOf, IsBackupOf, IsLawfulTarget}
+use Rattle.core_node.specs.Files.{IsLawfulTarget}
+use Rattle.image_model.specs.Images.{IsSourceOf, IsBackupOf}
 
 -- ---- epochs and stored bitmaps
 

@@ -8,7 +8,7 @@ use Rattle.core_events.specs.Events.{Event, Guest, Monitor, Tick}
 use Rattle.core_events.specs.declared.answers.Errno.{Errno}
 use Rattle.core_events.specs.Answers.{Reply, Done, Content, Flags, Fault, Jobs, Nodes, Refused, Answer}
 use Rattle.plain_model.specs.History.{now}
-use Rattle.plain_model.specs.Space.{Store}
+use Rattle.image_model.specs.Space.{Store}
 use Rattle.plain_model.specs.Machine.{Machine, size_of}
 use Rattle.plain_model.specs.Jobs.{Job, completion}
 use Rattle.plain_model.specs.Requests.{is_write, denial}
@@ -16,10 +16,11 @@ use Rattle.plain_model.specs.Actions.{Held}
 use Rattle.plain_model.specs.Outcome.{Trouble, numbered, outcome}
 use Rattle.plain_model.specs.Faults.{Rise, StepFaults}
 use Rattle.plain_model.specs.Step.{StepContents, StepSpace}
-use Rattle.plain_model.specs.Records.{Backup, Sealed}
+use Rattle.image_model.specs.Backups.{Backup, Sealed}
 use Rattle.plain_model.specs.Lawful.{disks_after}
 use Rattle.plain_model.specs.Laws.{sealed_by, HoldsCopies}
-use Rattle.core_node.specs.Files.{Reading, AreHeld, IsBackupOf, IsTargetOf, IsLawfulTarget}
+use Rattle.core_node.specs.Files.{Reading, AreHeld, IsLawfulTarget}
+use Rattle.image_model.specs.Images.{IsBackupOf, IsTargetOf}
 use Rattle.core_node.specs.Standing.{Shown, SameNumbers, SameBitmaps, shown_view}
 use Rattle.core_node.specs.Rest.{State, session_directory, IsSafe}
 

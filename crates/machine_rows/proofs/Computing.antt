@@ -13,7 +13,7 @@ use Rattle.bitmap_model.specs.Bitmaps.{add_fault}
 use Rattle.bitmap_model.specs.Copies.{without}
 use Rattle.monitor_model.specs.Commands.{order_of}
 use Rattle.nbd_model.specs.Sessions.{taken_of}
-use Rattle.plain_model.specs.Space.{need, store_written, freed_by_write, store_zeroed, freed_by_zero}
+use Rattle.image_model.specs.Space.{need, store_written, freed_by_write, store_zeroed, freed_by_zero}
 use Rattle.plain_model.specs.Machine.{opened}
 use Rattle.plain_model.specs.Requests.{denial, lacks_room}
 use Rattle.plain_model.specs.Queries.{export_refusal}

@@ -1,7 +1,8 @@
 -- Chains of backups: which are taken, and what they give.
 use Rattle.std.specs.Prelude.{◌≡◌, ℕ, List, [], ◌∷◌, replicate, map, codes, true, false, Bool, Some, None, Option, Ok, Err}
 use Rattle.span_algebra.specs.declared.spans.Base.TheVariants.{Whole, Since, Loose}
-use Rattle.plain_model.specs.Records.{Backup, BackupState, Blank, Begun, Sealed, RefusedFile, ChainFault, NoBackup, NotSealed, FirstNotFull, NoBase, OtherDisk, OtherSize, Gap, refused_file, overlay_of}
+use Rattle.plain_model.specs.Records.{RefusedFile, ChainFault, NoBackup, NotSealed, FirstNotFull, NoBase, OtherDisk, OtherSize, Gap, refused_file, overlay_of}
+use Rattle.image_model.specs.Backups.{Backup, BackupState, Blank, Begun, Sealed}
 use Rattle.machine_rows.specs.Jobs.{at}
 
 -- a backup of a disk of 8 bytes in units of 2, each present unit filled with one byte

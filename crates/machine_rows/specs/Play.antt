@@ -6,7 +6,7 @@ use Rattle.core_events.specs.Answers.{Answer}
 use Rattle.script_model.specs.Lines.{Line, asked, asked_to_write, drive}
 use Rattle.script_model.specs.Lines as script
 use Rattle.bitmap_model.specs.Granules.{granules_in}
-use Rattle.plain_model.specs.Space.{Hole, Store, Change, entries_in}
+use Rattle.image_model.specs.Space.{Hole, Store, Change, entries_in}
 use Rattle.plain_model.specs.Machine.{Machine, opened}
 use Rattle.plain_model.specs.Ending.{closed}
 use Rattle.plain_model.specs.Actions.{Held, Target}

@@ -5,7 +5,8 @@ use Rattle.script_model.specs.Lines as script
 use Rattle.plain_model.specs.History.{disk_at}
 use Rattle.plain_model.specs.Jobs.{Job}
 use Rattle.plain_model.specs.Machine.{Machine, size_of}
-use Rattle.plain_model.specs.Records.{Backup, Gap, NoBase, topmost}
+use Rattle.plain_model.specs.Records.{Gap, NoBase, topmost}
+use Rattle.image_model.specs.Backups.{Backup}
 use Rattle.plain_model.specs.Laws.{sealed_by}
 use Rattle.machine_rows.specs.Play.{fresh, blank, write, state_after}
 use Rattle.machine_rows.specs.Commands.{alone, together, add_b0, full, incremental, fleece, backup, enabling}

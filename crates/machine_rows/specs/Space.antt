@@ -5,7 +5,7 @@ use Rattle.script_model.specs.Lines.{Line, asked, drive}
 use Rattle.script_model.specs.Lines as script
 use Rattle.core_events.specs.declared.events.Work.TheVariants as work
 use Rattle.bitmap_model.specs.Runs.{runs_of, reply_runs}
-use Rattle.plain_model.specs.Space.{Kind, Data, Hole, Zeroed}
+use Rattle.image_model.specs.Space.{Kind, Data, Hole, Zeroed}
 use Rattle.plain_model.specs.Machine.{Machine, opened}
 use Rattle.plain_model.specs.Outcome.{RequestEnd, Untouched, Torn, no_trouble}
 use Rattle.machine_rows.specs.Play.{empty_store, blank, write, read, zero, flush, status, output, output_amid, at_event, state_after}

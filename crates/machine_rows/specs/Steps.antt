@@ -4,7 +4,7 @@ use Rattle.script_model.specs.Lines.{asked, asked_to_write, drive}
 use Rattle.core_events.specs.Events.{Event, Guest}
 use Rattle.core_events.specs.declared.events.Work.TheVariants as work
 use Rattle.core_events.specs.Answers.{Answer, Done}
-use Rattle.plain_model.specs.Space.{Hole}
+use Rattle.image_model.specs.Space.{Hole}
 use Rattle.plain_model.specs.Machine.{Machine}
 use Rattle.plain_model.specs.Faults.{Rise}
 use Rattle.plain_model.specs.Step.{Step}

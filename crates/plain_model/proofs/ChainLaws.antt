@@ -20,7 +20,8 @@ use Rattle.span_algebra.proofs.PointOrder.{same_point-true}
 use Rattle.span_algebra.proofs.Touched.{past_write, past_other}
 use Rattle.span_algebra.proofs.Dates.{after-stands}
 use Rattle.plain_model.specs.History.{Entry, Wrote, Reached, History, IsHistory, disk_after, entries_before, disk_at, without_bytes, timeline_of}
-use Rattle.plain_model.specs.Records.{Backup, Sealed, is_present, HoldsPoint, HoldsChanges, StateHolds, RecordIsTrue, Follow, IsChain, topmost, overlay_of}
+use Rattle.plain_model.specs.Records.{is_present, HoldsPoint, HoldsChanges, StateHolds, RecordIsTrue, Follow, IsChain, topmost, overlay_of}
+use Rattle.image_model.specs.Backups.{Backup, Sealed}
 use Rattle.plain_model.proofs.Points.{length-disk_at}
 
 -- ---- a byte that no write touched

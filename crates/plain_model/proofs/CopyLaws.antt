@@ -13,7 +13,8 @@ use Rattle.bitmap_model.proofs.Copies.{none_missing}
 use Rattle.plain_model.specs.History.{History}
 use Rattle.plain_model.specs.Jobs.{Job, unit_of, next_unit}
 use Rattle.plain_model.specs.Machine.{Machine, size_of}
-use Rattle.plain_model.specs.Records.{Backup, is_present, BaseHolds}
+use Rattle.plain_model.specs.Records.{is_present, BaseHolds}
+use Rattle.image_model.specs.Backups.{Backup}
 use Rattle.plain_model.specs.Sound.{ScopeHolds, IsSoundJob, IsSound}
 use Rattle.plain_model.specs.Laws.{HoldsCopies, sealed_by, Completes}
 use Rattle.plain_model.proofs.Points.{length-disk_at}

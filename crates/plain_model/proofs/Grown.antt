@@ -10,7 +10,7 @@ use Rattle.bitmap_model.proofs.Sets.{in_length}
 use Rattle.bitmap_model.proofs.Copies.{set_has, set_has_own, set_is_part}
 use Rattle.core_events.specs.declared.answers.JobFault.{JobFault}
 use Rattle.plain_model.specs.History.{History}
-use Rattle.plain_model.specs.Space.{Store, IsShapedStore}
+use Rattle.image_model.specs.Space.{Store, IsShapedStore}
 use Rattle.plain_model.specs.Jobs.{Job, Tried, unit_of, with_copied, copies}
 use Rattle.plain_model.specs.Sound.{IsSoundJob}
 use Rattle.plain_model.proofs.Stores.{written_is_shaped, written_cluster}

@@ -22,7 +22,7 @@ use Rattle.bitmap_model.proofs.Shapes.{none_of_is_shaped}
 use Rattle.bitmap_model.proofs.TrueSpans.{base_is_covered}
 use Rattle.core_events.specs.declared.commands.BackupArgs.{BackupArgs}
 use Rattle.plain_model.specs.History.{History, Reached, with_entry, timeline_of}
-use Rattle.plain_model.specs.Space.{Store, IsShapedStore}
+use Rattle.image_model.specs.Space.{Store, IsShapedStore}
 use Rattle.plain_model.specs.Actions.{scope_for, base_for, new_job}
 use Rattle.plain_model.specs.Sound.{IsSoundBitmap, IsShapedJob, ScopeHolds, IsSoundJob}
 use Rattle.plain_model.proofs.Points.{timeline-reached, now-reached, disk_at-new, stands-new}

@@ -8,7 +8,8 @@ use Rattle.span_algebra.specs.declared.spans.Base.TheVariants.{Whole, Since, Loo
 use Rattle.span_algebra.specs.Timelines.{stands}
 use Rattle.span_algebra.specs.Spans.{that_pass}
 use Rattle.plain_model.specs.History.{Entry, History, with_entry, timeline_of}
-use Rattle.plain_model.specs.Records.{Backup, BackupState, Blank, Begun, Sealed, is_present, ReadsAs, HoldsPoint, BaseHolds, StateHolds, RecordIsTrue}
+use Rattle.plain_model.specs.Records.{is_present, ReadsAs, HoldsPoint, BaseHolds, StateHolds, RecordIsTrue}
+use Rattle.image_model.specs.Backups.{Backup, BackupState, Blank, Begun, Sealed}
 use Rattle.plain_model.proofs.Points.{with_entries, disk_at-more, stands-more, touched-more}
 
 pub point-more : (h : History) (es : List Entry) (b : Backup) (p : Point) → HoldsPoint h b p → HoldsPoint (with_entries h es) b p

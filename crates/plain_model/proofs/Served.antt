@@ -14,7 +14,7 @@ use Rattle.core_events.specs.declared.answers.JobFault.{JobFault}
 use Rattle.core_events.specs.declared.answers.JobFault.TheVariants.{Failed}
 use Rattle.core_events.specs.Answers.{Done}
 use Rattle.plain_model.specs.History.{History}
-use Rattle.plain_model.specs.Space.{Store}
+use Rattle.image_model.specs.Space.{Store}
 use Rattle.plain_model.specs.Jobs.{Job, Tried, next_unit, copies, completion}
 use Rattle.plain_model.specs.Machine.{Machine, size_of}
 use Rattle.plain_model.specs.Ending.{given_back, completed, leave}

@@ -5,7 +5,7 @@ use Rattle.std.proofs.Common.{ℕ, true, false, arith}
 use Rattle.core_events.specs.Events.{Request, Event}
 use Rattle.core_events.specs.declared.events.Work.{Work}
 use Rattle.core_events.specs.declared.events.Work.TheVariants.{Read, Write, Zero, Flush, Status}
-use Rattle.plain_model.specs.Space.{Store, IsShapedStore, Change}
+use Rattle.image_model.specs.Space.{Store, IsShapedStore, Change}
 use Rattle.plain_model.specs.Machine.{Machine, size_of}
 use Rattle.plain_model.specs.Requests.{range_of}
 use Rattle.plain_model.specs.Outcome.{Trouble, Fate, Denied, Lost, Carried, CarriedInPart, numbered}

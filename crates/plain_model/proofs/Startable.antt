@@ -11,7 +11,7 @@ use Rattle.bitmap_model.specs.Bitmap.{BitmapState}
 use Rattle.bitmap_model.specs.Bitmaps.{named}
 use Rattle.bitmap_model.proofs.Faults.{IsUsable}
 use Rattle.script_model.specs.Recording.{is_drive}
-use Rattle.plain_model.specs.Space.{Store}
+use Rattle.image_model.specs.Space.{Store}
 use Rattle.plain_model.specs.Jobs.{has_id}
 use Rattle.plain_model.specs.Machine.{Machine, size_of, runners, has_target}
 use Rattle.monitor_model.specs.Commands.{first_of}

@@ -16,7 +16,7 @@ use Rattle.core_events.specs.declared.commands.SyncKind.{SyncKind}
 use Rattle.core_events.specs.declared.commands.SyncKind.TheVariants.{Full, Incremental, Bitmap, Nothing}
 use Rattle.core_events.specs.declared.commands.BackupArgs.{BackupArgs}
 use Rattle.plain_model.specs.History.{History, Reached, with_entry, timeline_of}
-use Rattle.plain_model.specs.Space.{Store, IsShapedStore}
+use Rattle.image_model.specs.Space.{Store, IsShapedStore}
 use Rattle.plain_model.specs.Jobs.{Job}
 use Rattle.plain_model.specs.Machine.{Machine, size_of, runners}
 use Rattle.plain_model.specs.Laws.{IsFit}

@@ -5,7 +5,7 @@ use Rattle.std.specs.Prelude.{if◌then◌else◌}
 use Rattle.std.proofs.lemmas.List.FromFn.{length-map-range_with_len}
 use Rattle.span_algebra.specs.Timelines.{Extent}
 use Rattle.bitmap_model.proofs.Sets.{length-set_of}
-use Rattle.plain_model.specs.Space.{Data, Store, IsShapedStore, kind_at, is_touched, kinds_written, tables_written, store_written, store_zeroed}
+use Rattle.image_model.specs.Space.{Data, Store, IsShapedStore, kind_at, is_touched, kinds_written, tables_written, store_written, store_zeroed}
 
 -- a store with as many kinds and tables, and clusters of that size
 pub like_is_shaped : (size : ℕ) (s t : Store) → t.cluster ≡ s.cluster → length t.kinds ≡ length s.kinds → length t.tables ≡ length s.tables

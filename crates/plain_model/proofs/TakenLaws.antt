@@ -11,7 +11,8 @@ use Rattle.span_algebra.specs.declared.spans.Base.TheVariants.{Whole, Since, Loo
 use Rattle.span_algebra.specs.Points.{same_point}
 use Rattle.span_algebra.proofs.PointOrder.{same_point-true}
 use Rattle.monitor_model.specs.Commands.{first_of}
-use Rattle.plain_model.specs.Records.{Backup, BackupState, Blank, Begun, Sealed, Follow, IsChain, ChainFault, OtherDisk, OtherSize, Gap, Link, first_fault, later_fault, point_in, refused_from, refused_file}
+use Rattle.plain_model.specs.Records.{Follow, IsChain, ChainFault, OtherDisk, OtherSize, Gap, Link, first_fault, later_fault, point_in, refused_from, refused_file}
+use Rattle.image_model.specs.Backups.{Backup, BackupState, Blank, Begun, Sealed}
 use Rattle.plain_model.specs.Laws.{TakenAreChains}
 
 -- ---- tests

@@ -24,7 +24,7 @@ use Rattle.monitor_model.specs.Commands.{first_of}
 use Rattle.script_model.specs.Lines.{drive}
 use Rattle.script_model.specs.Recording.{is_drive}
 use Rattle.plain_model.specs.History.{with_entry, Reached}
-use Rattle.plain_model.specs.Space.{Store}
+use Rattle.image_model.specs.Space.{Store}
 use Rattle.plain_model.specs.Jobs.{Job, has_id}
 use Rattle.plain_model.specs.Machine.{Machine, size_of, last_number, next_point, runners, has_target}
 

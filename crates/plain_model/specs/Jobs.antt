@@ -12,7 +12,7 @@ use Rattle.core_events.specs.declared.answers.JobFault.{JobFault}
 use Rattle.core_events.specs.declared.answers.JobFault.TheVariants.{Failed, NoRoom}
 use Rattle.core_events.specs.declared.answers.Notice.{Notice}
 use Rattle.core_events.specs.declared.answers.Notice.TheVariants.{Completed}
-use Rattle.plain_model.specs.Space.{Store, need, store_written}
+use Rattle.image_model.specs.Space.{Store, need, store_written}
 
 -- A job copies the units of its scope into its target, each with the bytes of the disk at its point. A unit is a cluster of the
 -- target, whose store is as the start found it and as the copies have changed it. A view has all units as its scope, and no tick

@@ -9,7 +9,8 @@ use Rattle.bitmap_model.specs.BitmapLaws.{IsRecordedToNow}
 use Rattle.core_events.specs.declared.events.Work.{Work}
 use Rattle.core_events.specs.declared.events.Work.TheVariants.{Read, Write, Zero, Flush, Status}
 use Rattle.plain_model.specs.History.{History, IsHistory, Entry, Wrote, now, timeline_of}
-use Rattle.plain_model.specs.Records.{Backup, BackupState, Blank, Begun, Sealed, StateHolds}
+use Rattle.plain_model.specs.Records.{StateHolds}
+use Rattle.image_model.specs.Backups.{Backup, BackupState, Blank, Begun, Sealed}
 use Rattle.plain_model.specs.Requests.{is_write}
 use Rattle.plain_model.specs.Step.{sector}
 

@@ -15,7 +15,7 @@ use Rattle.core_events.specs.declared.refusals.Refusal.{Refusal}
 use Rattle.core_events.specs.declared.refusals.Refusal.TheVariants.{OutOfMemory}
 use Rattle.core_events.specs.Answers.{Reply, Done, Fault, Refused, Answer}
 use Rattle.plain_model.specs.History.{History, Entry, Reached, IsHistory, now, disk_at, with_entry, timeline_of}
-use Rattle.plain_model.specs.Space.{IsShapedStore}
+use Rattle.image_model.specs.Space.{IsShapedStore}
 use Rattle.plain_model.specs.Jobs.{Job, unit_of, next_unit}
 use Rattle.plain_model.specs.Machine.{Machine, Opening, opened, size_of, last_number, next_point}
 use Rattle.plain_model.specs.Ending.{closed}
@@ -24,7 +24,8 @@ use Rattle.plain_model.specs.Actions.{Held, Absent, Faulty, Target}
 use Rattle.plain_model.specs.Outcome.{Trouble, no_trouble, Outcome, Denied, fate, numbered, outcome}
 use Rattle.plain_model.specs.Faults.{Rise}
 use Rattle.plain_model.specs.Step.{Step, StepSpace, IsWhole}
-use Rattle.plain_model.specs.Records.{Backup, Sealed, RecordIsTrue, IsChain, overlay_of, refused_file}
+use Rattle.plain_model.specs.Records.{RecordIsTrue, IsChain, overlay_of, refused_file}
+use Rattle.image_model.specs.Backups.{Backup, Sealed}
 use Rattle.plain_model.specs.Lawful.{IsTrueEntry, IsOfEpoch, Kept, settle}
 use Rattle.plain_model.specs.Sound.{IsSound}
 

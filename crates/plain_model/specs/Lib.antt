@@ -1,5 +1,4 @@
 pub mod History
-pub mod Space
 pub mod Jobs
 pub mod Machine
 pub mod Requests

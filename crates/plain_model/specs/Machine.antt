@@ -4,7 +4,7 @@ use Rattle.span_algebra.specs.declared.points.Point.{Point}
 use Rattle.bitmap_model.specs.Bitmap.{BitmapState, StoredBitmap, restored}
 use Rattle.core_events.specs.declared.commands.ExportArgs.{ExportArgs}
 use Rattle.plain_model.specs.History.{History}
-use Rattle.plain_model.specs.Space.{Store}
+use Rattle.image_model.specs.Space.{Store}
 use Rattle.plain_model.specs.Jobs.{Job, has_id}
 
 -- a view that ended or broke, and the event at which it did

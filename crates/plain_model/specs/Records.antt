@@ -10,24 +10,9 @@ use Rattle.span_algebra.specs.Points.{same_point, not_after}
 use Rattle.span_algebra.specs.Timelines.{stands}
 use Rattle.span_algebra.specs.Spans.{that_pass, AllTouched}
 use Rattle.bitmap_model.specs.Granules.{is_in}
+use Rattle.image_model.specs.Backups.{Backup, BackupState, Blank, Begun, Sealed}
 use Rattle.plain_model.specs.History.{History, disk_at, timeline_of}
 use Rattle.monitor_model.specs.Commands.{first_of}
-
-pub data BackupState : Type 0 where
-  Blank : BackupState
-  -- a backup was begun, and is not finished
-  Begun : BackupState
-  -- the disk at a point, or what changed of it since a base
-  Sealed : (base : Base) (point : Point) → BackupState
-
--- a backup file: the disk's id, its size, the size of a unit, what its record says, which units are present, and what it reads as
-pub record Backup : Type 0 where
-  pub id : List ℕ
-  pub size : ℕ
-  pub unit : ℕ
-  pub state : BackupState
-  pub present : List Bool
-  pub content : List ℕ
 
 abbrev pub is_present : Backup → ℕ → Bool
 is_present b x = is_in b.present (x / b.unit)

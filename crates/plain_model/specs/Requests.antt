@@ -19,7 +19,7 @@ use Rattle.core_events.specs.Answers.{Reply, Done, Content, Flags}
 use Rattle.monitor_model.specs.Commands.{first_of}
 use Rattle.script_model.specs.Recording.{is_drive}
 use Rattle.plain_model.specs.History.{now, disk_at}
-use Rattle.plain_model.specs.Space.{Kind, Data, Hole, Zeroed, need}
+use Rattle.image_model.specs.Space.{Kind, Data, Hole, Zeroed, need}
 use Rattle.plain_model.specs.Jobs.{Job}
 use Rattle.plain_model.specs.Machine.{Machine, GoneView, size_of, live_view}
 

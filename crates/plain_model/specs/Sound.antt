@@ -16,7 +16,7 @@ use Rattle.bitmap_model.specs.Copies.{is_missing, IsPart}
 use Rattle.core_events.specs.declared.commands.ExportArgs.{ExportArgs}
 use Rattle.script_model.specs.Recording.{is_drive}
 use Rattle.plain_model.specs.History.{History, IsHistory, now, disk_at, timeline_of}
-use Rattle.plain_model.specs.Space.{IsShapedStore}
+use Rattle.image_model.specs.Space.{IsShapedStore}
 use Rattle.plain_model.specs.Jobs.{Job, unit_of, has_id}
 use Rattle.plain_model.specs.Machine.{Machine, GoneView, size_of, next_point, runners, last_number}
 use Rattle.plain_model.specs.Actions.{most_jobs}

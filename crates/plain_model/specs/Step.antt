@@ -6,7 +6,7 @@ use Rattle.core_events.specs.declared.events.Work.{Work}
 use Rattle.core_events.specs.declared.events.Work.TheVariants.{Read, Write, Zero, Flush, Status}
 use Rattle.core_events.specs.Answers.{Answer}
 use Rattle.plain_model.specs.History.{now}
-use Rattle.plain_model.specs.Space.{Change, store_written, freed_by_write, store_zeroed, freed_by_zero, AreEither}
+use Rattle.image_model.specs.Space.{Change, store_written, freed_by_write, store_zeroed, freed_by_zero, AreEither}
 use Rattle.plain_model.specs.Machine.{Machine, size_of}
 use Rattle.plain_model.specs.Requests.{HasBytes, range_of}
 use Rattle.plain_model.specs.Actions.{Held}

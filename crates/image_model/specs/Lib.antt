@@ -1,0 +1,3 @@
+pub mod Backups
+pub mod Images
+pub mod Space
