@@ -1,5 +1,6 @@
 -- What one event does to a core that knows of its files, for each state of the plain machine for which it stands.
-use Rattle.std.specs.Prelude.{◌≡◌, ◌⊎◌, ℕ, ◌-◌, ◌^◌, ◌≤◌, List, [], ◌∷◌, ◌++◌, map, Bool, true, false, Option, Some, None, IsTrue, Contains, if◌then◌else◌}
+use Rattle.std.specs.Prelude.{◌≡◌, ◌⊎◌, ℕ, ◌+◌, ◌-◌, ◌^◌, ◌<◌, ◌≤◌, List, [], ◌∷◌, ◌++◌, map, Bool, true, false, Option, Some, None, IsTrue, Contains, if◌then◌else◌}
+use Rattle.disk_model.specs.Files.{byte, reading}
 use Rattle.disk_model.specs.World.{World, EachNow, EachSince, Leads}
 use Rattle.span_algebra.specs.declared.points.Point.{Point}
 use Rattle.span_algebra.specs.declared.spans.Base.{Base}
@@ -7,6 +8,11 @@ use Rattle.bitmap_model.specs.Bitmap.{StoredBitmap}
 use Rattle.core_events.specs.Events.{Event, Guest, Monitor, Tick}
 use Rattle.core_events.specs.declared.answers.Errno.{Errno}
 use Rattle.core_events.specs.Answers.{Reply, Done, Content, Flags, Fault, Jobs, Nodes, Refused, Answer}
+use Rattle.core_events.specs.declared.answers.JobFault.TheVariants.{Failed}
+use Rattle.qc_layout.specs.declared.header.Header.{Header}
+use Rattle.qc_layout.specs.declared.header.Own.TheVariants as owns
+use Rattle.qc_layout.specs.declared.header.Part.TheVariants as parts
+use Rattle.qc_layout.specs.Spelling.{IsHeaderOf}
 use Rattle.plain_model.specs.History.{now}
 use Rattle.image_model.specs.Space.{Store}
 use Rattle.plain_model.specs.Machine.{Machine, size_of}
@@ -96,6 +102,26 @@ SealedIn w id m j (Some f) = (content : List ℕ) × IsBackupOf (w.seen f) (seal
 abbrev pub NoNewBlanks : World → World → Type 0
 NoNewBlanks old new = (f size : ℕ) (store : Store) → IsTargetOf (new.seen f) true size store → (others : ℕ) × (other : Store) × IsTargetOf (old.seen f) true others other
 
+-- The job into this file ended in the event, as it completed or as a call of its seal failed: only so is a target sealed. For want of room, with the source or by a
+-- command none is.
+abbrev pub EndsAtSeal : World → Machine → Answer → ℕ → Type 0
+EndsAtSeal w m answer f = (j : Job) × Contains m.jobs j × (w.found j.target ≡ Some f)
+    × (Contains answer.notices (completion (size_of m) None j) ⊎ Contains answer.notices (completion (size_of m) (Some Failed) j))
+
+-- ---- first sectors
+
+-- the file has this first sector
+abbrev pub HasHead : List ℕ → List ℕ → Type 0
+HasHead sector file = reading file 0 512 ≡ sector
+
+-- it has this one, but for the record's 64 bytes at this place
+abbrev pub HasHeadBut : ℕ → List ℕ → List ℕ → Type 0
+HasHeadBut at sector file = (i : ℕ) → i < 512 → (i < at) ⊎ (at + 64 ≤ i) → byte file i ≡ byte sector i
+
+-- the file is a target, and its record stands at this place
+abbrev pub HasRecordAt : ℕ → List ℕ → Type 0
+HasRecordAt at file = (h : Header) × (bytes : List ℕ) × IsHeaderOf parts.Target file h × (h.own ≡ owns.Target bytes) × (h.own_at ≡ at)
+
 -- One event. `keeps` is what the core knew of the files before it, for a state, and `keeping` what it knows after it. What went wrong, what the
 -- depot held and the space of the source's file are the same for all these states.
 pub record Goes (stored : List ℕ → List StoredBitmap) (held : List ℕ → Held) (rise : Rise) (t : Trouble) (store : Store) (freed : ℕ) (before : Shown)
@@ -116,9 +142,15 @@ pub record Goes (stored : List ℕ → List StoredBitmap) (held : List ℕ → H
       (λ c. IsLawfulTarget before.id s.machine.history c × (IsTrue (may_land event) → IsLawfulTarget before.id (next_of held t event answer store freed s).machine.history c))
       (IsLawfulTarget before.id (next_of held t event answer store freed s).machine.history) (IsLawfulTarget before.id (next_of held t event answer store freed s).machine.history) old new
   pub blanks : (s : State) → keeps s → NoNewBlanks old new
+  -- the source keeps its first sector, as reads give it and in each crash; a target keeps what of its own isn't its record
+  pub source_head : (s : State) (sector : List ℕ) → keeps s → Leads before.file (HasHead sector) (HasHead sector) (HasHead sector) (HasHead sector) (HasHead sector) old new
+  pub target_heads : (s : State) (f at : ℕ) (sector : List ℕ) → keeps s → HasRecordAt at (old.seen f)
+      → Leads f (HasHeadBut at sector) (HasHeadBut at sector) (HasHeadBut at sector) (HasHeadBut at sector) (HasHeadBut at sector) old new
   -- a job that completed has sealed its target
   pub sealed : (s : State) (j : Job) → keeps s → Contains s.machine.jobs j → Contains answer.notices (completion (size_of s.machine) None j)
       → SealedIn new before.id s.machine j (new.found j.target)
+  -- a file that reads as sealed was so before, or a job ended at its seal
+  pub seals : (s : State) (f : ℕ) (b : Backup) (base : Base) (p : Point) → keeps s → b.state ≡ Sealed base p → IsBackupOf (new.seen f) b → IsBackupOf (old.seen f) b ⊎ EndsAtSeal new s.machine answer f
   -- and what is sealed stays so, as reads give it and in each crash
   pub stays : (s : State) (f : ℕ) (b : Backup) (base : Base) (p : Point) → keeps s → b.state ≡ Sealed base p
       → Leads f (λ c. IsBackupOf c b) (λ c. IsBackupOf c b) (λ c. IsBackupOf c b) (λ c. IsBackupOf c b) (λ c. IsBackupOf c b) old new

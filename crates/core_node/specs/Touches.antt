@@ -12,7 +12,7 @@ use Rattle.core_events.specs.declared.answers.Notice.TheVariants.{Completed, Can
 use Rattle.core_events.specs.Answers.{Reply, Done, Content, Flags, Fault, Jobs, Nodes, Refused, Answer}
 use Rattle.plain_model.specs.Requests.{is_write, is_flush}
 use Rattle.core_node.specs.Files.{event_starts_on}
-use Rattle.core_node.specs.Standing.{Shown, ShownJob, ShownView, TargetFile}
+use Rattle.core_node.specs.Standing.{Shown, ShownJob, ShownView, TargetFile, has_copied}
 
 -- the source and its disk stay the same
 pub record SameSource (before after : Shown) : Type 0 where
@@ -59,9 +59,6 @@ abbrev pub writes_targets : Event → Bool
 writes_targets (Guest r) = is_write r.work
 writes_targets (Monitor c) = false
 writes_targets Tick = true
-
-abbrev pub has_copied : List Bool → Bool
-has_copied copied = not (count_by (λ d. d) copied == 0)
 
 -- the job or view of this id is there, and has copied something
 abbrev pub job_has_copied : List ℕ → ShownJob → Bool

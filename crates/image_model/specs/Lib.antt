@@ -1,3 +1,4 @@
 pub mod Backups
 pub mod Images
+pub mod Refusals
 pub mod Space

@@ -17,7 +17,8 @@ use Rattle.qc_layout.proofs.Cited.{alike_back, header_from_start, fault_from_sta
 use Rattle.qback_top.specs.declared.description.Description.{Description}
 use Rattle.qback_top.specs.declared.description.Description.TheVariants as descriptions
 use Rattle.qback_top.specs.Descriptions.{Describes, DescribesHeader}
-use Rattle.qback_top.specs.Infos.{InfoDue, IsToldAs, IsRefusedAs, fault_in, header_reason, record_reason}
+use Rattle.image_model.specs.Refusals.{header_reason, record_reason}
+use Rattle.qback_top.specs.Infos.{InfoDue, IsToldAs, IsRefusedAs, fault_in}
 use Rattle.qback_top.specs.Words.{IsInfo}
 use Rattle.qback_top.specs.Endings.{Refused, Told, looks, tells_of, looks_and_says, LooksAndTells}
 use Rattle.qback_top.specs.Shown.{StopsInInfo}

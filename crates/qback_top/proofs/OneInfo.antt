@@ -15,7 +15,8 @@ use Rattle.qc_layout.specs.Laws.{SameHeader}
 use Rattle.qc_layout.specs.Spelling.{IsHeaderOf, IsFault}
 use Rattle.qc_layout.proofs.Cited.{one_fault, fault_or_header, one_header}
 use Rattle.qback_top.specs.Words.{IsInfo}
-use Rattle.qback_top.specs.Infos.{InfoDue, IsToldAs, IsRefusedAs, fault_in, info_text, kind_line, own_lines, header_reason, record_reason}
+use Rattle.image_model.specs.Refusals.{header_reason, record_reason}
+use Rattle.qback_top.specs.Infos.{InfoDue, IsToldAs, IsRefusedAs, fault_in, info_text, kind_line, own_lines}
 use Rattle.qback_top.specs.Endings.{Ending, NoForm, Missing, Exists, Refused, BadLine, Made, Told, Ran}
 
 -- ---- what a file is

@@ -5,7 +5,8 @@ use Rattle.qc_layout.specs.declared.header.Header.{Header}
 use Rattle.qc_layout.specs.declared.records.RecordFault.{RecordFault}
 use Rattle.qback_top.specs.declared.description.Description.{Description}
 use Rattle.qback_top.specs.declared.description.Description.TheVariants as descriptions
-use Rattle.qback_top.specs.Infos.{fault_in, info_text, own_lines, record_reason, IsToldAs, IsRefusedAs}
+use Rattle.image_model.specs.Refusals.{record_reason}
+use Rattle.qback_top.specs.Infos.{fault_in, info_text, own_lines, IsToldAs, IsRefusedAs}
 
 -- of a file that begins with these bytes
 abbrev pub Describes : List ℕ → Description → Type 0

@@ -11,50 +11,15 @@ use Rattle.qc_layout.specs.declared.header.Own.{Own}
 use Rattle.qc_layout.specs.declared.header.Own.TheVariants.{Absent, Source, Target}
 use Rattle.qc_layout.specs.declared.header.Header.{Header}
 use Rattle.qc_layout.specs.declared.header.HeaderFault.{HeaderFault}
-use Rattle.qc_layout.specs.declared.header.HeaderFault.TheVariants as faults
 use Rattle.qc_layout.specs.declared.records.Record.{Record}
 use Rattle.qc_layout.specs.declared.records.State.TheVariants.{Blank, Begun, Sealed}
 use Rattle.qc_layout.specs.declared.records.RecordFault.{RecordFault}
-use Rattle.qc_layout.specs.declared.records.RecordFault.TheVariants as record_faults
 use Rattle.qc_layout.specs.Spelling.{IsHeaderOf, IsFault}
 use Rattle.qc_layout.specs.Disks.{IsReadAs}
 use Rattle.qc_layout.specs.Records.{record_fault, record_of}
+use Rattle.image_model.specs.Refusals.{header_reason, record_reason}
 use Rattle.qback_top.specs.Words.{IsInfo}
 use Rattle.qback_top.specs.Endings.{Ending, Missing, Refused, Told, looks_and_says}
-
--- ---- the reasons, by their names
-
-abbrev pub header_reason : HeaderFault → List ℕ
-header_reason faults.Short = codes "Short"
-header_reason faults.Magic = codes "Magic"
-header_reason faults.Version = codes "Version"
-header_reason faults.HeaderLength = codes "HeaderLength"
-header_reason faults.ClusterBits = codes "ClusterBits"
-header_reason faults.Size = codes "Size"
-header_reason faults.Backing = codes "Backing"
-header_reason faults.Encrypted = codes "Encrypted"
-header_reason faults.Snapshots = codes "Snapshots"
-header_reason faults.Dirty = codes "Dirty"
-header_reason faults.Corrupt = codes "Corrupt"
-header_reason faults.ExternalData = codes "ExternalData"
-header_reason faults.Compression = codes "Compression"
-header_reason faults.ExtendedL2 = codes "ExtendedL2"
-header_reason faults.Incompatible = codes "Incompatible"
-header_reason faults.RefcountOrder = codes "RefcountOrder"
-header_reason faults.L1Table = codes "L1Table"
-header_reason faults.RefcountTable = codes "RefcountTable"
-header_reason faults.Extensions = codes "Extensions"
-header_reason faults.TooLong = codes "TooLong"
-header_reason faults.BitmapsExtension = codes "BitmapsExtension"
-header_reason faults.Autoclear = codes "Autoclear"
-header_reason faults.OwnExtension = codes "OwnExtension"
-header_reason faults.Memory = codes "Memory"
-
-abbrev pub record_reason : RecordFault → List ℕ
-record_reason record_faults.RecordVersion = codes "RecordVersion"
-record_reason record_faults.RecordState = codes "RecordState"
-record_reason record_faults.RecordKind = codes "RecordKind"
-record_reason record_faults.RecordUnit = codes "RecordUnit"
 
 -- ---- the text
 

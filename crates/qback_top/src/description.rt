@@ -5,7 +5,8 @@ ghost use Rattle.std.specs.Fmt.{decimal};
 ghost use Rattle.hex.specs.Hex.{encode_lower};
 ghost use Rattle.disk_model.specs.World.{World};
 ghost use Rattle.qc_layout.specs.declared.header.HeaderFault.TheVariants as header_faults;
-ghost use Rattle.qback_top.specs.Infos.{header_reason, record_reason, point_text, base_line, record_lines, kind_line, own_lines};
+ghost use Rattle.image_model.specs.Refusals.{header_reason, record_reason};
+ghost use Rattle.qback_top.specs.Infos.{point_text, base_line, record_lines, kind_line, own_lines};
 ghost use Rattle.qback_top.specs.Descriptions.{Describes, DescribesHeader, AddsOwn};
 ghost use Rattle.qback_top.specs.Stops.{StopsFor};
 
