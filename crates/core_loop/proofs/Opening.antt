@@ -110,7 +110,7 @@ module _ {stored : List ℕ → List StoredBitmap} {allows : List Directory} {fi
   open_stays = source_stays call.run told (lawful.source.seen told)
 
   -- where a node begins, a run of events may start
-  pub may_start : {shown : Shown} {K : Knows} {events : List Event} → shown.file ≡ files.source → (begins : NodeBegins stored allows shown K files.source files.id h old) → Covers files events old
+  pub may_start : {shown : Shown} {K : Knows} {events : List Event} → shown.file ≡ files.source → (begins : NodeBegins stored allows shown K files.source files.id h old new) → Covers files events old
       → Starts files shown K events (first_state h (record begins.opening { taken = begins.taken; given = begins.given })) new
   unfolding opened
   may_start file_is begins covers = record {
@@ -125,9 +125,9 @@ module _ {stored : List ℕ → List StoredBitmap} {allows : List Directory} {fi
 
 -- where it answered Ok, a session begins
 pub node_begins : {stored : List ℕ → List StoredBitmap} {allows : List Directory} {files : Files} {h : History} {disks : List (List ℕ)} {shown : Shown} {K : Knows} {file : ℕ} {old new : World} → Opened stored file shown K old new → files.source ≡ file → IsTrue old.tells
-    → old.found (old.named file) ≡ Some file → AreLawful stored allows files h disks old → NodeBegins stored allows shown K files.source files.id h old
-node_begins {stored} {allows} {files} {h} {disks} {shown} {K} {file} {old} opened is told found lawful =
-    subst (λ (f : ℕ). NodeBegins stored allows shown K f files.id h old) (sym is)
+    → old.found (old.named file) ≡ Some file → AreLawful stored allows files h disks old → NodeBegins stored allows shown K files.source files.id h old new
+node_begins {stored} {allows} {files} {h} {disks} {shown} {K} {file} {old} {new} opened is told found lawful =
+    subst (λ (f : ℕ). NodeBegins stored allows shown K f files.id h old new) (sym is)
     (opened.begins allows files.id h disks told found lawful.history_is (subst (λ (f : ℕ). Holds f (IsReady stored allows files.id h) (IsSafe stored allows files.id h disks) old) is lawful.source))
 
 pub call_of : {stored : List ℕ → List StoredBitmap} (files : Files) {file : ℕ} {old new : World} → files.source ≡ file → OpenCall stored file old new → OpenCall stored files.source old new

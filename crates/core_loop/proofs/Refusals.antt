@@ -28,7 +28,7 @@ comes_after reading text source from move step prints some = (
   (step.work.text (λ none. none)).printed ∙ step.printed prints,
 )
 
-pub closed_keeps : {stored : List ℕ → List StoredBitmap} {file : ℕ} {id : List ℕ} (s : State) {new : World} {answer : Answer} → Closed stored file id s new answer → (c : List ℕ) → IsOutcome (versions new file) c → (stored_by s.machine ≡ [] → ⊥) → stored c ≡ [] → ⊥
+pub closed_keeps : {stored : List ℕ → List StoredBitmap} {file : ℕ} {id : List ℕ} (s : State) {old new : World} {answer : Answer} → Closed stored file id s old new answer → (c : List ℕ) → IsOutcome (versions new file) c → (stored_by s.machine ≡ [] → ⊥) → stored c ≡ [] → ⊥
 closed_keeps {stored} {file} {id} s {new} closed c outcome some none = from_safe (closed.rest.each c outcome)
   where
     from_safe : IsSafe stored (when_closed s) id s.machine.history (now s.machine.history ∷ []) c → ⊥

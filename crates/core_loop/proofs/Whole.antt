@@ -28,14 +28,14 @@ use Rattle.core_loop.specs.declared.session.Stop.{Stop}
 use Rattle.core_loop.specs.declared.session.Stop.TheVariants.{Halted}
 
 -- the state in which a session begins
-abbrev pub begin_state : {stored : List ℕ → List StoredBitmap} {allows : List Directory} {shown : Shown} {K : Knows} {file : ℕ} {id : List ℕ} {h : History} {old : World} → NodeBegins stored allows shown K file id h old → State
+abbrev pub begin_state : {stored : List ℕ → List StoredBitmap} {allows : List Directory} {shown : Shown} {K : Knows} {file : ℕ} {id : List ℕ} {h : History} {old new : World} → NodeBegins stored allows shown K file id h old new → State
 begin_state {h = h} begins = first_state h (record begins.opening { taken = begins.taken; given = begins.given })
 
 pub moved_to : (P : ℕ → List ℕ → Type 0) {f g : ℕ} {i j : List ℕ} → f ≡ g → i ≡ j → P f i → P g j
 moved_to P {f} {g} {i} {j} file id has = subst (λ (x : ℕ). P x j) file (subst (λ (y : List ℕ). P f y) id has)
 
 module _ {stored : List ℕ → List StoredBitmap} {reading : Reading} {text : ℕ → Event → Answer → List ℕ} {allows : List Directory} {files : Files} {name : List ℕ} {h : History} {disks : List (List ℕ)} {events : List Event} {shown after : Shown} {K L : Knows} {old mid new : World}
-    (call : OpenCall stored files.source old mid) (lawful : AreLawful stored allows files h disks old) (told : IsTrue old.tells) (file_is : shown.file ≡ files.source) (begins : NodeBegins stored allows shown K files.source files.id h old)
+    (call : OpenCall stored files.source old mid) (lawful : AreLawful stored allows files h disks old) (told : IsTrue old.tells) (file_is : shown.file ≡ files.source) (begins : NodeBegins stored allows shown K files.source files.id h old mid)
     (same : SameSource shown after) (stands : (s : State) → L s → StandsFor after new s.machine) (safe : (s : State) → L s → HoldsIn stored after.file after.id s new) (mixes : (s : State) → L s → Mixes s.machine.history s.disks)
     {E : Type 0} {halt : Result E Halt} {done : Bool} (r : RanEvents stored reading text files name (begin_state begins) L halt done events mid new) where
   abbrev first : Cut
@@ -96,7 +96,7 @@ module _ {stored : List ℕ → List StoredBitmap} {reading : Reading} {text : �
     printed_here all prints = (close.text (λ none. none)).printed ∙ all (subst IsTrue (sym call.run.goes.prints) prints) ∙ ap (λ (p : List ℕ). p ++ texts text r.ran.moves) ((call.run.text (λ none. none)).printed)
 
     pub has_begun : {T : Type 0} {result : Result T Stop} {answer : Answer} → (OwesTexts result → OwesAll halt) → (IsOk result → IsOk halt) → (IsOk result → IsTrue done → IsTrue last.state.machine.ended)
-        → (IsOk result → Closed stored files.source files.id last.state end answer) → StoppedIn result files.source last.state last.world new end → Begun stored reading text allows files name h disks result events answer old end
+        → (IsOk result → Closed stored files.source files.id last.state new end answer) → StoppedIn result files.source last.state last.world new end → Begun stored reading text allows files name h disks result events answer old end
     has_begun owes ok ends closed stopped = record {
       opening = begins.opening;
       taken = begins.taken;

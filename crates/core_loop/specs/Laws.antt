@@ -55,5 +55,5 @@ DroppedIsNotSafe = (stored : List ℕ → List StoredBitmap) (allows : List Dire
 
 -- so after a closing that was answered Ok, of a state with a lasting bitmap, no crash leaves an image that stores none
 abbrev pub ClosedKeepsBitmaps : Type 0
-ClosedKeepsBitmaps = (stored : List ℕ → List StoredBitmap) (file : ℕ) (id : List ℕ) (s : State) (new : World) (answer : Answer) (c : List ℕ) → Closed stored file id s new answer → IsOutcome (versions new file) c
+ClosedKeepsBitmaps = (stored : List ℕ → List StoredBitmap) (file : ℕ) (id : List ℕ) (s : State) (old new : World) (answer : Answer) (c : List ℕ) → Closed stored file id s old new answer → IsOutcome (versions new file) c
     → (stored_by s.machine ≡ [] → ⊥) → stored c ≡ [] → ⊥

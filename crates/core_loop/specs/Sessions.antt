@@ -197,7 +197,7 @@ pub record Begun {T : Type 0} (stored : List ℕ → List StoredBitmap) (reading
   -- where it was closed, nothing but prints followed the last event, each crash leaves the very disk, and what lasts of the bitmaps is stored
   pub between : IsOk result → Runs only_text (last_cut first moves).world over
   pub all : IsOk result → (n ≡ length events) ⊎ IsTrue (last_cut first moves).state.machine.ended
-  pub closed : IsOk result → Closed stored files.source files.id (last_cut first moves).state new answer
+  pub closed : IsOk result → Closed stored files.source files.id (last_cut first moves).state over new answer
   pub stopped : StoppedIn result files.source (last_cut first moves).state (last_cut first moves).world over new
 
 abbrev pub Session : {T : Type 0} → (List ℕ → List StoredBitmap) → Reading → (ℕ → Event → Answer → List ℕ) → List Directory → Files → List ℕ → History → List (List ℕ) → Result T Stop → List Event → Answer → World → World → Type 0
