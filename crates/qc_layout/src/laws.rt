@@ -1,6 +1,6 @@
 //! Laws of the definitions. Each function does nothing; its contract is the law.
 
-ghost use Rattle.qc_layout.specs.Laws.{OneListing, OneFault, FaultOrHeader, OneHeader, FromStart, OneDisk, FindsAsSpelled, NoDirectoryStoresNothing};
+ghost use Rattle.qc_layout.specs.Laws.{OneListing, OneFault, FaultOrHeader, OneHeader, FromStart, OneDisk, FindsAsSpelled, NoDirectoryStoresNothing, StoredIsShaped, OwnersByName};
 
 /// One list of extensions at most stands in a place.
 pub fn one_listing()
@@ -41,4 +41,14 @@ pub fn finds_as_spelled()
 /// A file without a directory stores no bitmap, and has no fault and no cluster of one.
 pub fn no_directory_stores_nothing()
     ensures { NoDirectoryStoresNothing }
+{}
+
+/// What a file stores is in shape: at most 64 bitmaps, with names that differ, each with a set of granules of the disk.
+pub fn stored_is_shaped()
+    ensures { StoredIsShaped }
+{}
+
+/// Who holds a cluster for bitmaps depends on which are listed, and not on their order.
+pub fn owners_by_name()
+    ensures { OwnersByName }
 {}
