@@ -12,7 +12,10 @@ use Rattle.qc_layout.specs.declared.entry.L2Entry.TheVariants.{Hole}
 use Rattle.qc_layout.specs.declared.header.Part.{Part}
 use Rattle.qc_layout.specs.Entries.{l1_of}
 use Rattle.qc_layout.specs.Header.{fields_of, l1_needed}
-use Rattle.qc_layout.specs.Disks.{Passes, words_in, counts_in, place_of, clusters_in, bits_of, table_at, entry_under, entry_at, ReadsAs, Stands, block_at, refcount, reach_of, Who, Head, Counts, Block, Tables, Table, Guest, Refers, Tight}
+use Rattle.qc_layout.specs.Disks.{Passes, words_in, counts_in, place_of, clusters_in, bits_of, table_at, entry_under, entry_at, ReadsAs, Stands, block_at, refcount, reach_of}
+use Rattle.qc_layout.specs.Directory.{directory_in}
+use Rattle.qc_layout.specs.Owners.{Who, Head, Counts, Block, Tables, Table, Guest, Bitmaps, Refers, Tight}
+use Rattle.qc_layout.proofs.Directories.{stores_nothing}
 use Rattle.qc_layout.proofs.PlainLaws.{l1_plain}
 use Rattle.backup_file.specs.Layout.{table_clusters, l1_clusters, block_clusters, l1_cluster, all_clusters, HasTables, HasNumbers}
 use Rattle.backup_file.proofs.Sizes.{IsForm, IsCluster, IsShort, cluster_of, short_of, all_counted, level_low, level_high, index_small, cluster_small}
@@ -37,7 +40,7 @@ same_of p i j some h =
 no_table : (bits : ℕ) → 0 < 2 ^ bits → l1_of bits 0 ≡ Ok None
 no_table bits some = l1_plain bits 0 (record { low = refl; high = refl; zero_or_stored = λ z. refl }) (omega arith)
 
-module _ (bits size : ℕ) (file : List ℕ) (form : IsForm bits size) (numbers : HasNumbers bits size file) (tables : HasTables bits size file) where
+module _ (bits size : ℕ) (file : List ℕ) (form : IsForm bits size) (numbers : HasNumbers bits size file) (tables : HasTables bits size file) (bare : directory_in file ≡ None) where
   abbrev p : ℕ
   p = 2 ^ bits
 
@@ -197,6 +200,7 @@ module _ (bits size : ℕ) (file : List ℕ) (form : IsForm bits size) (numbers 
       (is_tables k (omega (arith, level_is)), omega (arith, all_is))
   refers_only (Table i) k refers = absurd (no_some i (place_of (bits_of file) k) refers.0 refers.1)
   refers_only (Guest i j) k refers = absurd (no_some i refers.0 refers.1 refers.2)
+  refers_only (Bitmaps held) k refers = absurd ((stores_nothing file bare).held held k refers)
 
   -- and each that lies there has one
   counts_refer : (k : ℕ) → 1 ≤ k → k < 1 + table → Refers file Counts k

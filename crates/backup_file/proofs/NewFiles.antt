@@ -19,7 +19,8 @@ use Rattle.qc_layout.specs.Spelling.{Fits, sector_of, own_bytes, number_words, A
 use Rattle.qc_layout.proofs.Passing.{no_fault, or_none}
 use Rattle.qc_layout.proofs.Heads.{length-target}
 use Rattle.qc_layout.proofs.Written.{BeginsWith}
-use Rattle.qc_layout.proofs.Telling.{Tells, IsNew, tells_passes, tells_own, new_fits, bare_tells, backed_tells}
+use Rattle.qc_layout.proofs.Directories.{stores_nothing}
+use Rattle.qc_layout.proofs.Telling.{Tells, IsNew, tells_passes, tells_own, tells_no_directory, new_fits, bare_tells, backed_tells}
 use Rattle.backup_file.specs.declared.layout.Plan.{Plan}
 use Rattle.backup_file.specs.Layout.{is_form, table_clusters, block_clusters, l1_cluster, all_clusters, HasTables, HasNumbers}
 use Rattle.backup_file.specs.Made.{IsNewSource, IsNewTarget, HasBacking}
@@ -131,14 +132,17 @@ source_made bits size disk h file tested long new begins tables =
     let form = form_of bits size tested in
     let is = source_new bits size disk h tested long new in
     let tells = bare_tells parts.Source h file is begins new.keeps in
+    let bare = tells_no_directory parts.Source file h tells in
     let numbers = numbers_told bits size 0 0 (owns.Source disk 0 0 0) [] h tested new parts.Source file tells in
     record {
-      stands = new_stands bits size file form numbers tables parts.Source (tells_passes parts.Source file h tells);
-      tight = new_is_tight bits size file form numbers tables;
+      stands = new_stands bits size file form numbers tables bare parts.Source (tells_passes parts.Source file h tells);
+      tight = new_is_tight bits size file form numbers tables bare;
       tables = tables;
       numbers = numbers;
       sector = record { header = h; is_new = new; sector = begins.sector };
       says = λ read spells. tells_own parts.Source file h read tells spells ∙ new.is_own;
+      no_directory = bare;
+      stored = (stores_nothing file bare).stored;
     }
 
 -- a backup, by the file under it
@@ -147,15 +151,18 @@ target_with : (bits size backing_place backing_length : ℕ) (own : Own) (kept :
 target_with bits size backing_place backing_length own kept backing h file tested record_ new tells sector tables under =
     let form = form_of bits size tested in
     let numbers = numbers_told bits size backing_place backing_length own kept h tested new parts.Target file tells in
+    let bare = tells_no_directory parts.Target file h tells in
     record {
-      stands = new_stands bits size file form numbers tables parts.Target (tells_passes parts.Target file h tells);
-      tight = new_is_tight bits size file form numbers tables;
+      stands = new_stands bits size file form numbers tables bare parts.Target (tells_passes parts.Target file h tells);
+      tight = new_is_tight bits size file form numbers tables bare;
       sector = subst (λ (o : Own). HasSector bits size backing o file) (record_.is ∙ ap owns.Target record_.exact) sector;
       tables = tables;
       numbers = numbers;
       says = λ read spells. (record_.bytes, tells_own parts.Target file h read tells spells ∙ new.is_own ∙ record_.is, record_.well, record_.says);
-      empty = new_is_empty bits size file form numbers tables;
+      empty = new_is_empty bits size file form numbers tables bare;
       under = under;
+      no_directory = bare;
+      stored = (stores_nothing file bare).stored;
     }
 
 is_own_of : (bits : ℕ) (own : Own) → IsBlankOwn bits own → IsOwnOf parts.Target own

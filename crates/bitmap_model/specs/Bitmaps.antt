@@ -1,10 +1,10 @@
 -- The bitmaps of a disk, in order of adding, and the refusals of each call in their order.
-use Rattle.std.specs.Prelude.{◌≡◌, ℕ, ◌^◌, List, [], ◌∷◌, ◌++◌, length, map, filter, Bool, false, not, ◌&&◌, nat_lt, nat_le, ◌==◌, Option, Some, None, Result, Ok, Err, if◌then◌else◌, bytes_eq, min, max, find}
+use Rattle.std.specs.Prelude.{◌≡◌, ℕ, ◌^◌, List, [], ◌∷◌, ◌++◌, length, map, filter, Bool, false, not, ◌&&◌, nat_lt, nat_le, ◌==◌, Option, Some, None, Result, Ok, Err, if◌then◌else◌, bytes_eq, min, max, find, ◌≤◌, All, IsTrue}
 use Rattle.std.specs.List.{list_any, list_all}
 use Rattle.std.specs.Str.{is_utf8}
 use Rattle.span_algebra.specs.declared.points.Point.{Point}
 use Rattle.span_algebra.specs.Timelines.{Extent}
-use Rattle.bitmap_model.specs.Granules.{is_granularity, granules_in}
+use Rattle.bitmap_model.specs.Granules.{IsShaped, is_granularity, granules_in}
 use Rattle.bitmap_model.specs.Bitmap.{BitmapState, StoredBitmap, is_busy, new_bitmap, restored, when_merged, when_written}
 
 pub data BitmapFault : Type 0 where
@@ -41,6 +41,18 @@ is_name name = nat_lt 0 (length name) && (nat_le (length name) 1023 && (is_utf8 
 -- how many bitmaps a disk may have
 abbrev pub most_bitmaps : ℕ
 most_bitmaps = 64
+
+-- a stored bitmap is in shape, for a disk of this size
+pub record IsShapedEntry (size : ℕ) (e : StoredBitmap) : Type 0 where
+  pub name_is : IsTrue (is_name e.name)
+  pub shape : IsShaped e.bits
+  pub sized : e.bits.size ≡ size
+
+-- those of an image are, their names differ, and there aren't too many
+pub record AreShapedEntries (size : ℕ) (entries : List StoredBitmap) : Type 0 where
+  pub shapes : All (IsShapedEntry size) entries
+  pub apart : AreApart (map restored entries)
+  pub few : length entries ≤ most_bitmaps
 
 -- where none is given: the image's cluster size, but at least 4,096 and at most 65,536
 abbrev pub default_granularity : ℕ → ℕ

@@ -11,12 +11,12 @@ use Rattle.span_algebra.specs.Points.{precedes}
 use Rattle.span_algebra.specs.Timelines.{is_after, Rise}
 use Rattle.span_algebra.specs.Timelines as timelines
 use Rattle.bitmap_model.specs.Bitmap.{StoredBitmap, restored}
-use Rattle.bitmap_model.specs.Bitmaps.{most_bitmaps}
+use Rattle.bitmap_model.specs.Bitmaps.{most_bitmaps, IsShapedEntry}
 use Rattle.plain_model.specs.History.{History, IsHistory, timeline_of}
 use Rattle.plain_model.specs.Jobs.{Job}
 use Rattle.plain_model.specs.Machine.{Opening, opened}
 use Rattle.plain_model.specs.Lawful.{IsTrueEntry, IsOfEpoch}
-use Rattle.plain_model.specs.Laws.{IsShapedEntry, IsLawfulOpening}
+use Rattle.plain_model.specs.Laws.{IsLawfulOpening}
 use Rattle.plain_model.specs.Sound.{IsSoundBitmap, IsUsedOnce, HasItsBitmap, IsSound}
 use Rattle.plain_model.proofs.Counting.{all_both}
 

@@ -1,9 +1,9 @@
 -- The laws, as statements.
 use Rattle.std.specs.Prelude.{◌≡◌, ◌≢◌, ℕ, ◌+◌, ◌*◌, ◌/◌, ◌<◌, ◌≤◌, List, [], ◌∷◌, length, map, Bool, Option, Some, None, Ok, if◌then◌else◌, slice_index, All, IsTrue, Contains}
 use Rattle.span_algebra.specs.declared.points.Point.{Point}
-use Rattle.bitmap_model.specs.Granules.{IsShaped, IsAllowed, is_in}
+use Rattle.bitmap_model.specs.Granules.{IsAllowed, is_in}
 use Rattle.bitmap_model.specs.Bitmap.{StoredBitmap, restored}
-use Rattle.bitmap_model.specs.Bitmaps.{is_name, most_bitmaps, AreApart}
+use Rattle.bitmap_model.specs.Bitmaps.{most_bitmaps, AreApart, IsShapedEntry}
 use Rattle.bitmap_model.specs.Copies.{CopyTruth}
 use Rattle.core_events.specs.Events.{Request, Event, Guest, Monitor}
 use Rattle.core_events.specs.declared.commands.Action.{Action}
@@ -41,12 +41,6 @@ IsFit (Target blank size store) = IsShapedStore size store × IsAllowed size sto
 abbrev pub SoundnessIsKept : Type 0
 SoundnessIsKept = (source : List ℕ) (held : List ℕ → Held) (rise : Rise) (old : Machine) (event : Event) (answer : Answer) (new : Machine)
     → IsSound old → IsWhole event → ((name : List ℕ) → IsFit (held name)) → Step source held rise old event answer new → IsSound new
-
--- a stored bitmap is in shape
-pub record IsShapedEntry (size : ℕ) (e : StoredBitmap) : Type 0 where
-  pub name_is : IsTrue (is_name e.name)
-  pub shape : IsShaped e.bits
-  pub sized : e.bits.size ≡ size
 
 -- what an opening finds is in shape and true for the history
 pub record IsLawfulOpening (h : History) (o : Opening) : Type 0 where

@@ -1,4 +1,5 @@
 pub mod Cited
+pub mod Directories
 pub mod EntryLaws
 pub mod HeaderLaws
 pub mod Kept

@@ -1,4 +1,5 @@
 -- What a file tells that begins with a new header: its numbers, its extensions, and nothing else of this project's own.
+use Rattle.std.proofs.lemmas.Grind.{common_steps}
 use Rattle.std.proofs.Common.{rules}
 use Rattle.std.proofs.Common.{◌≡◌, inr, ℕ, ◌+◌, ◌≤◌, List, [], ◌∷◌, ◌++◌, length, drop, replicate, Bool, false, Option, None, refl, sym, ap, ◌∙◌, subst, arith, length-append}
 use Rattle.std.specs.Prelude.{codes, not, ◌&&◌}
@@ -19,6 +20,8 @@ use Rattle.qc_layout.proofs.WrittenNumbers.{fields_written, length-words}
 use Rattle.qc_layout.proofs.Words.{header_parts}
 use Rattle.qc_layout.proofs.Passing as passing
 use Rattle.qc_layout.proofs.Passing.{numbers_pass, plain_pass, passed_in, no_fault}
+use Rattle.qc_layout.specs.Directory.{directory_in}
+use Rattle.qc_layout.proofs.Directories.{found_in}
 use Rattle.qc_layout.proofs.Listing.{one_listing}
 use Rattle.qc_layout.proofs.Blocks.{AreOthers}
 use Rattle.qc_layout.proofs.Heads.{in_front, extension_at, head_stands, own_short, own_extension, own_says, own_front}
@@ -33,6 +36,7 @@ pub record Tells (part : Part) (file : List ℕ) (h : Header) : Type 0 where
   pub listed : AreExtensions file (list_end h.fields.cluster_bits) h.fields.header_length extensions
   pub rules : first_of (extension_rules part file h.fields extensions) ≡ None
   pub says : h.own ≡ own_in file (first_of_kind own_kind extensions)
+  pub no_bitmaps : first_of_kind bitmaps_kind extensions ≡ None
 
 pub tells_passes : (part : Part) (file : List ℕ) (h : Header) → Tells part file h → Passes part file
 tells_passes part file h t = search rules
@@ -48,6 +52,10 @@ tells_own part file h read t is =
     is.spells.own
     ∙ ap (λ (es : List Extension). own_in file (first_of_kind own_kind es)) (told_list part file h t is.spells.extensions is.spells.listed)
     ∙ sym t.says
+
+-- it has no directory of bitmaps
+pub tells_no_directory : (part : Part) (file : List ℕ) (h : Header) → Tells part file h → directory_in file ≡ None
+tells_no_directory part file h t = grind (arith, common_steps, found_in)
 
 -- ---- a new header
 
@@ -143,6 +151,7 @@ module _ (part : Part) (h : Header) (file : List ℕ) (new : IsNew part h) (begi
         rules = extensions_pass part file h.fields all one_bitmaps one_own (omega arith) (ap (is_bad_bitmaps h.fields.cluster_bits file) found_bitmaps)
             (ap (λ (t : Bool). t && not (is_there (first_of_kind bitmaps_kind all))) new.autoclear) (ap (is_bad_own part) found_own ∙ own.well);
         says = own.says ∙ ap (own_in file) (sym found_own);
+        no_bitmaps = found_bitmaps;
       }
 
   -- nothing is kept

@@ -1,5 +1,5 @@
--- The disk that an image stands for, and who refers to which of its clusters (qcow2 specification, "Cluster mapping", "Host cluster management").
-use Rattle.std.specs.Prelude.{◌≡◌, ◌≢◌, ℕ, ◌+◌, ◌-◌, ◌*◌, ◌/◌, ◌%◌, ◌^◌, ◌<◌, min, List, length, nat_lt, ◌==◌, if◌then◌else◌, Option, Some, None, Result, Ok, Err}
+-- The disk that an image stands for, and how often its clusters are counted (qcow2 specification, "Cluster mapping", "Host cluster management").
+use Rattle.std.specs.Prelude.{◌≡◌, ℕ, ◌+◌, ◌-◌, ◌*◌, ◌/◌, ◌%◌, ◌^◌, ◌<◌, min, List, length, nat_lt, ◌==◌, if◌then◌else◌, Option, Some, None, Result, Ok, Err}
 use Rattle.disk_model.specs.Files.{byte, reading, u16_at, u64_at}
 use Rattle.qc_layout.specs.declared.entry.EntryFault.{EntryFault}
 use Rattle.qc_layout.specs.declared.entry.L2Entry.{L2Entry}
@@ -109,47 +109,3 @@ refcount file k =
 -- no cluster from here on can be used
 abbrev pub reach_of : List ℕ → ℕ
 reach_of file = min (2 ^ 30) (blocks_in file * counts_in (bits_of file))
-
--- ---- who refers to a cluster
-
--- of an image without bitmaps; an entry that names no cluster's start refers to none
-pub data Who : Type 0 where
-  Head : Who
-  -- the refcount table, and a block of it
-  Counts : Who
-  Block : (index : ℕ) → Who
-  -- the first-level table, a second-level table, and a slot of one
-  Tables : Who
-  Table : (index : ℕ) → Who
-  Guest : (index slot : ℕ) → Who
-
--- n bytes from an offset on meet cluster k
-abbrev pub Meets : ℕ → ℕ → ℕ → ℕ → Type 0
-Meets bits k from n = (from < place_of bits k + 2 ^ bits) × (place_of bits k < from + n)
-
--- the entry names this host cluster, as stored or as zeros
-abbrev pub HostIs : Result L2Entry EntryFault → ℕ → Type 0
-HostIs (Ok (Zero host)) place = host ≡ place
-HostIs (Ok (Stored host)) place = host ≡ place
-HostIs entry place = ⊥
-
-abbrev pub Refers : List ℕ → Who → ℕ → Type 0
-Refers file Head k = k ≡ 0
-Refers file Counts k = Meets (bits_of file) k (fields_of file).refcount_table_offset (2 ^ bits_of file * (fields_of file).refcount_table_clusters)
-Refers file (Block i) k = (i < blocks_in file) × (block_at file i ≢ 0) × (block_at file i ≡ place_of (bits_of file) k)
-Refers file Tables k = Meets (bits_of file) k (fields_of file).l1_table_offset (8 * (fields_of file).l1_size)
-Refers file (Table i) k = (i < (fields_of file).l1_size) × (table_at file i ≡ Ok (Some (place_of (bits_of file) k)))
-Refers file (Guest i j) k = (table : ℕ) × (i < (fields_of file).l1_size) × (table_at file i ≡ Ok (Some table)) × (j < words_in (bits_of file))
-    × HostIs (l2_of (bits_of file) (u64_at file (table + 8 * j))) (place_of (bits_of file) k)
-
--- no cluster has two that refer to it, and each that has one lies below the reach and is counted
-pub record Counted (file : List ℕ) : Type 0 where
-  pub once : (a b : Who) (k : ℕ) → Refers file a k → Refers file b k → a ≡ b
-  pub below : (a : Who) (k : ℕ) → Refers file a k → k < reach_of file
-  pub counted : (a : Who) (k : ℕ) → Refers file a k → 0 < refcount file k
-
--- and each that has one is counted once, any other not
-pub record Tight (file : List ℕ) : Type 0 where
-  pub counted : Counted file
-  pub ones : (a : Who) (k : ℕ) → Refers file a k → refcount file k ≡ 1
-  pub others : (k : ℕ) → ((a : Who) → Refers file a k → ⊥) → refcount file k ≡ 0

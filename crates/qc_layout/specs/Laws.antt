@@ -1,6 +1,7 @@
 -- The laws, as statements.
-use Rattle.std.specs.Prelude.{◌≡◌, ℕ, ◌<◌, ◌≤◌, max, List, length, take}
+use Rattle.std.specs.Prelude.{◌≡◌, ℕ, ◌<◌, ◌≤◌, max, List, [], length, take, None, Contains}
 use Rattle.disk_model.specs.Files.{reading}
+use Rattle.bitmap_model.specs.Bitmaps.{AreShapedEntries}
 use Rattle.qc_layout.specs.declared.extension.Extension.{Extension}
 use Rattle.qc_layout.specs.declared.header.Header.{Header}
 use Rattle.qc_layout.specs.declared.header.HeaderFault.{HeaderFault}
@@ -9,6 +10,8 @@ use Rattle.qc_layout.specs.Header.{fields_of}
 use Rattle.qc_layout.specs.Extensions.{AreExtensions, list_end}
 use Rattle.qc_layout.specs.Disks.{IsReadAs, Stands}
 use Rattle.qc_layout.specs.Spelling.{Spells, IsHeaderOf, IsFault}
+use Rattle.qc_layout.specs.Directory.{ListedBitmap, directory_in, own_of, listed_in, directory_fault, stored_in}
+use Rattle.qc_layout.specs.Owners.{Held, Holds}
 
 -- one list of extensions at most stands in a place
 abbrev pub OneListing : Type 0
@@ -57,3 +60,31 @@ FromStart = (part : Part) (n : ℕ) (a b : List ℕ) → BeginAlike n a b
 -- a file stands for one disk at most
 abbrev pub OneDisk : Type 0
 OneDisk = (part : Part) (file disk other : List ℕ) → Stands part file disk → Stands part file other → disk ≡ other
+
+-- ---- bitmaps
+
+-- where a header is spelled, the directory and this project's extension are found as it says
+pub record IsFoundAs (file : List ℕ) (h : Header) : Type 0 where
+  pub directory : directory_in file ≡ h.bitmaps
+  pub own : own_of file ≡ h.own
+
+abbrev pub FindsAsSpelled : Type 0
+FindsAsSpelled = (part : Part) (file : List ℕ) (h : Header) → Spells part file h → IsFoundAs file h
+
+-- no bitmap, no fault, and no cluster for bitmaps
+pub record StoresNothing (file : List ℕ) : Type 0 where
+  pub stored : stored_in file ≡ []
+  pub faultless : directory_fault file ≡ None
+  pub held : (held : Held) (k : ℕ) → Holds file (listed_in file) held k → ⊥
+
+abbrev pub NoDirectoryStoresNothing : Type 0
+NoDirectoryStoresNothing = (file : List ℕ) → directory_in file ≡ None → StoresNothing file
+
+-- what a file stores is in shape
+abbrev pub StoredIsShaped : Type 0
+StoredIsShaped = (file : List ℕ) → AreShapedEntries (fields_of file).size (stored_in file)
+
+-- who holds a cluster for bitmaps depends on which are listed, and not on their order
+abbrev pub OwnersByName : Type 0
+OwnersByName = (file : List ℕ) (listed other : List ListedBitmap) (held : Held) (k : ℕ) → ((b : ListedBitmap) → Contains listed b → Contains other b)
+    → Holds file listed held k → Holds file other held k

@@ -7,7 +7,8 @@ use Rattle.qc_layout.specs.declared.entry.L2Entry.{L2Entry}
 use Rattle.qc_layout.specs.declared.entry.L2Entry.TheVariants.{Hole, Zero, Stored, Compressed}
 use Rattle.qc_layout.specs.Entries.{l2_of}
 use Rattle.qc_layout.specs.Header.{fields_of}
-use Rattle.qc_layout.specs.Disks.{bits_of, place_of, words_in, counts_in, blocks_in, block_at, table_at, refcount, reach_of, Counted}
+use Rattle.qc_layout.specs.Disks.{bits_of, place_of, words_in, counts_in, blocks_in, block_at, table_at, refcount, reach_of}
+use Rattle.qc_layout.specs.Owners.{Counted}
 
 -- ---- tables in order
 

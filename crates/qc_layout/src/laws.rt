@@ -1,6 +1,6 @@
 //! Laws of the definitions. Each function does nothing; its contract is the law.
 
-ghost use Rattle.qc_layout.specs.Laws.{OneListing, OneFault, FaultOrHeader, OneHeader, FromStart, OneDisk};
+ghost use Rattle.qc_layout.specs.Laws.{OneListing, OneFault, FaultOrHeader, OneHeader, FromStart, OneDisk, FindsAsSpelled, NoDirectoryStoresNothing, StoredIsShaped, OwnersByName};
 
 /// One list of extensions at most stands in a place.
 pub fn one_listing()
@@ -31,4 +31,24 @@ pub fn from_start()
 /// A file stands for one disk at most.
 pub fn one_disk()
     ensures { OneDisk }
+{}
+
+/// The directory of bitmaps and this project's extension are found in a file as its header says.
+pub fn finds_as_spelled()
+    ensures { FindsAsSpelled }
+{}
+
+/// A file without a directory stores no bitmap, and has no fault and no cluster of one.
+pub fn no_directory_stores_nothing()
+    ensures { NoDirectoryStoresNothing }
+{}
+
+/// What a file stores is in shape: at most 64 bitmaps, with names that differ, each with a set of granules of the disk.
+pub fn stored_is_shaped()
+    ensures { StoredIsShaped }
+{}
+
+/// Who holds a cluster for bitmaps depends on which are listed, and not on their order.
+pub fn owners_by_name()
+    ensures { OwnersByName }
 {}
