@@ -1,6 +1,6 @@
 //! Laws of the definitions. Each function does nothing; its contract is the law.
 
-ghost use Rattle.qc_layout.specs.Laws.{OneListing, OneFault, FaultOrHeader, OneHeader, FromStart, OneDisk};
+ghost use Rattle.qc_layout.specs.Laws.{OneListing, OneFault, FaultOrHeader, OneHeader, FromStart, OneDisk, OpeningIsExact};
 
 /// One list of extensions at most stands in a place.
 pub fn one_listing()
@@ -31,4 +31,9 @@ pub fn from_start()
 /// A file stands for one disk at most.
 pub fn one_disk()
     ensures { OneDisk }
+{}
+
+/// An opening refuses nothing of an image's clusters exactly where its tables pass the rules.
+pub fn opening_is_exact()
+    ensures { OpeningIsExact }
 {}
