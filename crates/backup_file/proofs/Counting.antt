@@ -14,7 +14,7 @@ use Rattle.qc_layout.specs.Entries.{l1_of}
 use Rattle.qc_layout.specs.Header.{fields_of, l1_needed}
 use Rattle.qc_layout.specs.Disks.{Passes, words_in, counts_in, place_of, clusters_in, bits_of, table_at, entry_under, entry_at, ReadsAs, Stands, block_at, refcount, reach_of}
 use Rattle.qc_layout.specs.Directory.{directory_in}
-use Rattle.qc_layout.specs.Owners.{Who, Head, Counts, Block, Tables, Table, Guest, Bitmaps, Refers, Tight}
+use Rattle.qc_layout.specs.Owners.{Who, Head, Counts, Block, Tables, Table, Guest, Refers, Owner, Image, Bitmaps, Owns, Tight}
 use Rattle.qc_layout.proofs.Directories.{stores_nothing}
 use Rattle.qc_layout.proofs.PlainLaws.{l1_plain}
 use Rattle.backup_file.specs.Layout.{table_clusters, l1_clusters, block_clusters, l1_cluster, all_clusters, HasTables, HasNumbers}
@@ -200,7 +200,10 @@ module _ (bits size : ℕ) (file : List ℕ) (form : IsForm bits size) (numbers 
       (is_tables k (omega (arith, level_is)), omega (arith, all_is))
   refers_only (Table i) k refers = absurd (no_some i (place_of (bits_of file) k) refers.0 refers.1)
   refers_only (Guest i j) k refers = absurd (no_some i refers.0 refers.1 refers.2)
-  refers_only (Bitmaps held) k refers = absurd ((stores_nothing file bare).held held k refers)
+
+  owner_only : (a : Owner) (k : ℕ) → Owns file a k → (Image (who_at k) ≡ a) × (k < all)
+  owner_only (Image who) k refers = (ap (λ (w : Who). Image w) (refers_only who k refers).0, (refers_only who k refers).1)
+  owner_only (Bitmaps held) k holds = absurd ((stores_nothing file bare).held held k holds)
 
   -- and each that lies there has one
   counts_refer : (k : ℕ) → 1 ≤ k → k < 1 + table → Refers file Counts k
@@ -240,8 +243,8 @@ module _ (bits size : ℕ) (file : List ℕ) (form : IsForm bits size) (numbers 
       (cases_lt k 1)
 
   -- each cluster of the file has one, and is counted once; no other has one, or is counted
-  counted_once : (a : Who) (k : ℕ) → Refers file a k → refcount file k ≡ 1
-  counted_once a k refers = refcount_is k ∙ sym (cond_below k all 1 0 (refers_only a k refers).1)
+  counted_once : (a : Owner) (k : ℕ) → Owns file a k → refcount file k ≡ 1
+  counted_once a k owns = refcount_is k ∙ sym (cond_below k all 1 0 (owner_only a k owns).1)
 
   reaches : (k : ℕ) → k < all → k < reach_of file
   reaches k low =
@@ -255,13 +258,13 @@ module _ (bits size : ℕ) (file : List ℕ) (form : IsForm bits size) (numbers 
   pub new_is_tight : Tight file
   new_is_tight = record {
     counted = record {
-      once = λ a b k first second. sym (refers_only a k first).0 ∙ (refers_only b k second).0;
-      below = λ a k refers. reaches k (refers_only a k refers).1;
-      counted = λ a k refers. omega (arith, counted_once a k refers);
+      once = λ a b k first second. sym (owner_only a k first).0 ∙ (owner_only b k second).0;
+      below = λ a k owns. reaches k (owner_only a k owns).1;
+      counted = λ a k owns. omega (arith, counted_once a k owns);
     };
     ones = counted_once;
     others = λ k nobody. ⊎_elim
-        (λ (low : k < all). let some = refers_some k low in absurd (nobody some.0 some.1))
+        (λ (low : k < all). let some = refers_some k low in absurd (nobody (Image some.0) some.1))
         (λ (high : all ≤ k). refcount_is k ∙ sym (cond_above k all 1 0 0 high refl))
         (cases_lt k all);
   }

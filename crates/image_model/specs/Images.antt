@@ -16,6 +16,8 @@ use Rattle.qc_layout.specs.Header.{fields_of}
 use Rattle.qc_layout.specs.Spelling.{Spells}
 use Rattle.qc_layout.specs.Records.{record_of, record_fault}
 use Rattle.qc_layout.specs.Disks.{ReadsAs, Stands, bits_of, entry_at, table_at}
+use Rattle.qc_layout.specs.Directory.{directory_fault}
+use Rattle.qc_layout.specs.Owners.{Counted}
 use Rattle.qc_layout.specs.Room.{TablesPass, HasRoom}
 use Rattle.image_model.specs.Space.{Kind, Data, Hole, Zeroed, Store, is_data, kind_at, entries_in}
 use Rattle.image_model.specs.Backups.{Backup, BackupState, Blank, Begun, Sealed}
@@ -45,11 +47,13 @@ pub record HasClusters (file : List ℕ) (store : Store) : Type 0 where
 
 -- ---- a source
 
--- The file is a source of this disk, id, epoch and clusters. It passes the rules of an opening: each cluster of its header, its counts, its
--- tables and its guest is referred to once and counted. What bitmaps refer to is not among these yet.
+-- The file is a source of this disk, id, epoch and clusters. It passes the rules of an opening: its tables and its directory of bitmaps are in order, and each cluster
+-- that something refers to, bitmaps among it, has one owner and is counted.
 pub record IsSourceOf (file disk id : List ℕ) (epoch : ℕ) (store : Store) : Type 0 where
   pub stands : Stands parts.Source file disk
   pub passes : TablesPass file
+  pub directory : directory_fault file ≡ None
+  pub counted : Counted file
   pub header : Header
   pub spelled : Spells parts.Source file header
   pub spans_offset : ℕ

@@ -21,3 +21,7 @@ pub mod RecordLaws
 pub mod Telling
 pub mod FirstForms
 pub mod OneDisk
+pub mod Checking
+pub mod Claims
+pub mod Orderly
+pub mod Opening

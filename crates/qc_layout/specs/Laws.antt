@@ -1,14 +1,16 @@
 -- The laws, as statements.
-use Rattle.std.specs.Prelude.{◌≡◌, ℕ, ◌<◌, ◌≤◌, max, List, [], length, take, None, Contains}
+use Rattle.std.specs.Prelude.{◌≡◌, ◌↔◌, ℕ, ◌<◌, ◌≤◌, max, List, [], length, take, None, Contains}
 use Rattle.disk_model.specs.Files.{reading}
 use Rattle.bitmap_model.specs.Bitmaps.{AreShapedEntries}
 use Rattle.qc_layout.specs.declared.extension.Extension.{Extension}
 use Rattle.qc_layout.specs.declared.header.Header.{Header}
 use Rattle.qc_layout.specs.declared.header.HeaderFault.{HeaderFault}
 use Rattle.qc_layout.specs.declared.header.Part.{Part}
-use Rattle.qc_layout.specs.Header.{fields_of}
+use Rattle.qc_layout.specs.Header.{fields_of, number_fault}
 use Rattle.qc_layout.specs.Extensions.{AreExtensions, list_end}
 use Rattle.qc_layout.specs.Disks.{IsReadAs, Stands}
+use Rattle.qc_layout.specs.Opening.{cluster_fault}
+use Rattle.qc_layout.specs.Room.{TablesPass}
 use Rattle.qc_layout.specs.Spelling.{Spells, IsHeaderOf, IsFault}
 use Rattle.qc_layout.specs.Directory.{ListedBitmap, directory_in, own_of, listed_in, directory_fault, stored_in}
 use Rattle.qc_layout.specs.Owners.{Held, Holds}
@@ -60,6 +62,10 @@ FromStart = (part : Part) (n : ℕ) (a b : List ℕ) → BeginAlike n a b
 -- a file stands for one disk at most
 abbrev pub OneDisk : Type 0
 OneDisk = (part : Part) (file disk other : List ℕ) → Stands part file disk → Stands part file other → disk ≡ other
+
+-- where a header's numbers pass, an opening refuses nothing exactly where the tables pass its rules
+abbrev pub OpeningIsExact : Type 0
+OpeningIsExact = (part : Part) (file : List ℕ) → number_fault part (length file) (fields_of file) ≡ None → (cluster_fault file ≡ None) ↔ TablesPass file
 
 -- ---- bitmaps
 

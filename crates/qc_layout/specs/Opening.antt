@@ -1,5 +1,5 @@
 -- How an opening goes through the clusters of an image: what it tests and which clusters it claims, in order, and what it refuses first.
-use Rattle.std.specs.Prelude.{ℕ, ◌+◌, ◌*◌, ◌/◌, ◌%◌, ◌^◌, List, [], ◌∷◌, ◌++◌, map, flat_map, Bool, not, ◌||◌, nat_le, ◌==◌, if◌then◌else◌, Option, Some, None, Result, Ok, Err}
+use Rattle.std.specs.Prelude.{ℕ, ◌+◌, ◌*◌, ◌/◌, ◌%◌, ◌^◌, List, [], ◌∷◌, ◌++◌, map, flat_map, not, ◌||◌, nat_le, ◌==◌, if◌then◌else◌, Option, Some, None, Result, Ok, Err}
 use Rattle.std.specs.List.{list_any, range_with_len}
 use Rattle.std.specs.Int.{div_ceil}
 use Rattle.disk_model.specs.Files.{u64_at}
@@ -7,9 +7,11 @@ use Rattle.qc_layout.specs.declared.entry.EntryFault.{EntryFault}
 use Rattle.qc_layout.specs.declared.entry.EntryFault.TheVariants as entry_faults
 use Rattle.qc_layout.specs.declared.entry.L2Entry.{L2Entry}
 use Rattle.qc_layout.specs.declared.entry.L2Entry.TheVariants as entries
-use Rattle.qc_layout.specs.Entries.{l1_of, l2_of}
+use Rattle.qc_layout.specs.Entries.{l2_of}
 use Rattle.qc_layout.specs.Header.{fields_of}
-use Rattle.qc_layout.specs.Disks.{bits_of, blocks_in, block_at, reach_of, refcount, words_in, place_of}
+use Rattle.qc_layout.specs.Disks.{bits_of, blocks_in, block_at, table_at, reach_of, refcount, words_in, place_of}
+use Rattle.qc_layout.specs.Owners.{Who}
+use Rattle.qc_layout.specs.Owners.Who.{Head, Counts, Block, Tables, Table, Guest}
 
 -- what is refused: an entry, by its own place in the file, or a cluster, by its offset
 pub data ImageFault : Type 0 where
@@ -24,11 +26,11 @@ pub data ImageFault : Type 0 where
   Overlap : (offset : ℕ) → ImageFault
   Uncounted : (offset : ℕ) → ImageFault
 
--- one step of an opening: an entry that may have a fault, a cluster that must lie below the reach, or one that something refers to
+-- one step of an opening: an entry that may have a fault, a cluster that must lie below the reach, or one that its owner refers to
 pub data Check : Type 0 where
   Entry : (fault : Option ImageFault) → Check
   Reached : (cluster : ℕ) → Check
-  Claim : (cluster : ℕ) → Check
+  Claim : (owner : Who) (cluster : ℕ) → Check
 
 -- why a cluster can't be referred to once more, where these have been
 abbrev pub claim_fault : List ℕ → List ℕ → ℕ → Option ImageFault
@@ -43,7 +45,7 @@ abbrev pub refused_after : List ℕ → List ℕ → List Check → Option Image
 refused_after file claimed [] = None
 refused_after file claimed (Entry fault ∷ checks) = elim fault [ Some found ↦ Some found | None ↦ refused_after file claimed checks ]
 refused_after file claimed (Reached k ∷ checks) = if nat_le (reach_of file) k then Some (PastLimit (place_of (bits_of file) k)) else refused_after file claimed checks
-refused_after file claimed (Claim k ∷ checks) = elim (claim_fault file claimed k) [ Some found ↦ Some found | None ↦ refused_after file (k ∷ claimed) checks ]
+refused_after file claimed (Claim owner k ∷ checks) = elim (claim_fault file claimed k) [ Some found ↦ Some found | None ↦ refused_after file (k ∷ claimed) checks ]
 
 -- ---- refcounts
 
@@ -67,13 +69,20 @@ block_fault file i =
 abbrev pub with_block : (ℕ → Check) → List ℕ → ℕ → List Check
 with_block check file i = if block_at file i == 0 then [] else check (block_at file i / 2 ^ bits_of file) ∷ []
 
--- Of the refcounts: their table lies below the reach, each of its entries is in order and names a block below the reach; then header, table and blocks are claimed.
-abbrev pub count_checks : List ℕ → List Check
-count_checks file =
+-- Of the refcounts: their table lies below the reach, and each of its entries is in order and names a block below the reach.
+abbrev pub count_tests : List ℕ → List Check
+count_tests file =
     map Reached (count_clusters file)
     ++ flat_map (λ i. Entry (block_fault file i) ∷ with_block Reached file i) (range_with_len 0 (blocks_in file))
-    ++ Claim 0 ∷ map Claim (count_clusters file)
-    ++ flat_map (with_block Claim file) (range_with_len 0 (blocks_in file))
+
+-- Then header, table and blocks are claimed.
+abbrev pub count_claims : List ℕ → List Check
+count_claims file =
+    Claim Head 0
+    ∷ (map (Claim Counts) (count_clusters file) ++ flat_map (λ i. with_block (Claim (Block i)) file i) (range_with_len 0 (blocks_in file)))
+
+abbrev pub count_checks : List ℕ → List Check
+count_checks file = count_tests file ++ count_claims file
 
 -- ---- the two levels
 
@@ -82,32 +91,33 @@ abbrev pub fault_at : ℕ → EntryFault → ImageFault
 fault_at at entry_faults.Reserved = Reserved at
 fault_at at entry_faults.Misaligned = Misaligned at
 
--- what is done for an entry of a second-level table that stands here: it is tested, and its cluster is claimed
-abbrev pub slot_checks : ℕ → ℕ → Result L2Entry EntryFault → List Check
-slot_checks bits at (Err fault) = Entry (Some (fault_at at fault)) ∷ []
-slot_checks bits at (Ok entries.Compressed) = Entry (Some (Compressed at)) ∷ []
-slot_checks bits at (Ok entries.Hole) = []
-slot_checks bits at (Ok (entries.Zero host)) = Claim (host / 2 ^ bits) ∷ []
-slot_checks bits at (Ok (entries.Stored host)) = Claim (host / 2 ^ bits) ∷ []
+-- what is done for a slot whose entry stands here: it is tested, and its cluster is claimed
+abbrev pub slot_checks : ℕ → Who → ℕ → Result L2Entry EntryFault → List Check
+slot_checks bits slot at (Err fault) = Entry (Some (fault_at at fault)) ∷ []
+slot_checks bits slot at (Ok entries.Compressed) = Entry (Some (Compressed at)) ∷ []
+slot_checks bits slot at (Ok entries.Hole) = []
+slot_checks bits slot at (Ok (entries.Zero host)) = Claim slot (host / 2 ^ bits) ∷ []
+slot_checks bits slot at (Ok (entries.Stored host)) = Claim slot (host / 2 ^ bits) ∷ []
 
-abbrev pub slots_from : List ℕ → ℕ → List Check
-slots_from file table = flat_map (λ j. slot_checks (bits_of file) (table + 8 * j) (l2_of (bits_of file) (u64_at file (table + 8 * j)))) (range_with_len 0 (words_in (bits_of file)))
-
--- and for one of the first level: it is tested, its table is claimed, and so are the entries of that, one after another
-abbrev pub table_checks : List ℕ → ℕ → Result (Option ℕ) EntryFault → List Check
-table_checks file at (Err fault) = Entry (Some (fault_at at fault)) ∷ []
-table_checks file at (Ok None) = []
-table_checks file at (Ok (Some table)) = Claim (table / 2 ^ bits_of file) ∷ slots_from file table
+-- slot j of the table that entry i of the first level names
+abbrev pub slot_of : List ℕ → ℕ → ℕ → ℕ → List Check
+slot_of file i table j = slot_checks (bits_of file) (Guest i j) (table + 8 * j) (l2_of (bits_of file) (u64_at file (table + 8 * j)))
 
 -- where entry i of the first level stands
 abbrev pub table_entry : List ℕ → ℕ → ℕ
 table_entry file i = (fields_of file).l1_table_offset + 8 * i
 
+-- what is done for it: it is tested, its table is claimed, and then come the slots of that, one after another
+abbrev pub table_checks : List ℕ → ℕ → Result (Option ℕ) EntryFault → List Check
+table_checks file i (Err fault) = Entry (Some (fault_at (table_entry file i) fault)) ∷ []
+table_checks file i (Ok None) = []
+table_checks file i (Ok (Some table)) = Claim (Table i) (table / 2 ^ bits_of file) ∷ flat_map (slot_of file i table) (range_with_len 0 (words_in (bits_of file)))
+
 -- Of the disk's clusters: the first level is claimed, and then gone through entry by entry.
 abbrev pub map_checks : List ℕ → List Check
 map_checks file =
-    map Claim (clusters_from (bits_of file) (fields_of file).l1_table_offset (8 * (fields_of file).l1_size))
-    ++ flat_map (λ i. table_checks file (table_entry file i) (l1_of (bits_of file) (u64_at file (table_entry file i)))) (range_with_len 0 (fields_of file).l1_size)
+    map (Claim Tables) (clusters_from (bits_of file) (fields_of file).l1_table_offset (8 * (fields_of file).l1_size))
+    ++ flat_map (λ i. table_checks file i (table_at file i)) (range_with_len 0 (fields_of file).l1_size)
 
 -- why an image's clusters are refused
 unfoldable pub cluster_fault : List ℕ → Option ImageFault

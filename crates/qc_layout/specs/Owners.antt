@@ -19,7 +19,7 @@ pub data Held : Type 0 where
   -- the table of spans
   Spans : Held
 
--- an entry that names no cluster's start refers to none
+-- What of an image refers to clusters, bitmaps apart. An entry that names no cluster's start refers to none.
 pub data Who : Type 0 where
   Head : Who
   -- the refcount table, and a block of it
@@ -29,7 +29,6 @@ pub data Who : Type 0 where
   Tables : Who
   Table : (index : ℕ) → Who
   Guest : (index slot : ℕ) → Who
-  Bitmaps : (held : Held) → Who
 
 -- n bytes from an offset on meet cluster k
 abbrev pub Meets : ℕ → ℕ → ℕ → ℕ → Type 0
@@ -58,16 +57,31 @@ Refers file Tables k = Meets (bits_of file) k (fields_of file).l1_table_offset (
 Refers file (Table i) k = (i < (fields_of file).l1_size) × (table_at file i ≡ Ok (Some (place_of (bits_of file) k)))
 Refers file (Guest i j) k = (table : ℕ) × (i < (fields_of file).l1_size) × (table_at file i ≡ Ok (Some table)) × (j < words_in (bits_of file))
     × HostIs (l2_of (bits_of file) (u64_at file (table + 8 * j))) (place_of (bits_of file) k)
-Refers file (Bitmaps held) k = Holds file (listed_in file) held k
 
--- no cluster has two that refer to it, and each that has one lies below the reach and is counted
-pub record Counted (file : List ℕ) : Type 0 where
+-- no cluster has two of these that refer to it, and each that has one lies below the reach and is counted
+pub record TablesCounted (file : List ℕ) : Type 0 where
   pub once : (a b : Who) (k : ℕ) → Refers file a k → Refers file b k → a ≡ b
   pub below : (a : Who) (k : ℕ) → Refers file a k → k < reach_of file
   pub counted : (a : Who) (k : ℕ) → Refers file a k → 0 < refcount file k
 
+-- ---- with what bitmaps hold
+
+pub data Owner : Type 0 where
+  Image : (who : Who) → Owner
+  Bitmaps : (held : Held) → Owner
+
+abbrev pub Owns : List ℕ → Owner → ℕ → Type 0
+Owns file (Image who) k = Refers file who k
+Owns file (Bitmaps held) k = Holds file (listed_in file) held k
+
+-- no cluster has two owners, and each that has one lies below the reach and is counted
+pub record Counted (file : List ℕ) : Type 0 where
+  pub once : (a b : Owner) (k : ℕ) → Owns file a k → Owns file b k → a ≡ b
+  pub below : (a : Owner) (k : ℕ) → Owns file a k → k < reach_of file
+  pub counted : (a : Owner) (k : ℕ) → Owns file a k → 0 < refcount file k
+
 -- and each that has one is counted once, any other not
 pub record Tight (file : List ℕ) : Type 0 where
   pub counted : Counted file
-  pub ones : (a : Who) (k : ℕ) → Refers file a k → refcount file k ≡ 1
-  pub others : (k : ℕ) → ((a : Who) → Refers file a k → ⊥) → refcount file k ≡ 0
+  pub ones : (a : Owner) (k : ℕ) → Owns file a k → refcount file k ≡ 1
+  pub others : (k : ℕ) → ((a : Owner) → Owns file a k → ⊥) → refcount file k ≡ 0

@@ -8,7 +8,7 @@ use Rattle.qc_layout.specs.declared.entry.L2Entry.TheVariants.{Hole, Zero, Store
 use Rattle.qc_layout.specs.Entries.{l2_of}
 use Rattle.qc_layout.specs.Header.{fields_of}
 use Rattle.qc_layout.specs.Disks.{bits_of, place_of, words_in, counts_in, blocks_in, block_at, table_at, refcount, reach_of}
-use Rattle.qc_layout.specs.Owners.{Counted}
+use Rattle.qc_layout.specs.Owners.{TablesCounted}
 
 -- ---- tables in order
 
@@ -20,14 +20,14 @@ IsInOrder (Ok (Stored host)) = Unit {0}
 IsInOrder (Ok Compressed) = ⊥
 IsInOrder (Err fault) = ⊥
 
--- The tables pass the rules of an opening: blocks begin at clusters, each entry of both levels is in order, and each cluster that is
--- referred to is so once, lies below the reach and is counted.
+-- The tables pass the rules of an opening, bitmaps apart: blocks begin at clusters, each entry of both levels is in order, and each cluster that
+-- is referred to is so once, lies below the reach and is counted.
 pub record TablesPass (file : List ℕ) : Type 0 where
   pub blocks : (i : ℕ) → i < blocks_in file → u64_at file ((fields_of file).refcount_table_offset + 8 * i) % 2 ^ bits_of file ≡ 0
   pub tables : (i : ℕ) → i < (fields_of file).l1_size → (table : Option ℕ) × (table_at file i ≡ Ok table)
   pub entries : (i table j : ℕ) → i < (fields_of file).l1_size → table_at file i ≡ Ok (Some table) → j < words_in (bits_of file)
       → IsInOrder (l2_of (bits_of file) (u64_at file (table + 8 * j)))
-  pub counted : Counted file
+  pub counted : TablesCounted file
 
 -- ---- room
 

@@ -1,6 +1,6 @@
 //! Laws of the definitions. Each function does nothing; its contract is the law.
 
-ghost use Rattle.qc_layout.specs.Laws.{OneListing, OneFault, FaultOrHeader, OneHeader, FromStart, OneDisk, FindsAsSpelled, NoDirectoryStoresNothing, StoredIsShaped, OwnersByName};
+ghost use Rattle.qc_layout.specs.Laws.{OneListing, OneFault, FaultOrHeader, OneHeader, FromStart, OneDisk, OpeningIsExact, FindsAsSpelled, NoDirectoryStoresNothing, StoredIsShaped, OwnersByName};
 
 /// One list of extensions at most stands in a place.
 pub fn one_listing()
@@ -51,4 +51,8 @@ pub fn stored_is_shaped()
 /// Who holds a cluster for bitmaps depends on which are listed, and not on their order.
 pub fn owners_by_name()
     ensures { OwnersByName }
+
+/// An opening refuses nothing of an image's clusters exactly where its tables pass the rules.
+pub fn opening_is_exact()
+    ensures { OpeningIsExact }
 {}
