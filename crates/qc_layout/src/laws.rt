@@ -51,6 +51,7 @@ pub fn stored_is_shaped()
 /// Who holds a cluster for bitmaps depends on which are listed, and not on their order.
 pub fn owners_by_name()
     ensures { OwnersByName }
+{}
 
 /// An opening refuses nothing of an image's clusters exactly where its tables pass the rules.
 pub fn opening_is_exact()
