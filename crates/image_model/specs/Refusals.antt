@@ -11,7 +11,8 @@ use Rattle.qc_layout.specs.declared.records.RecordFault.TheVariants as record_fa
 use Rattle.qc_layout.specs.Spelling.{Spells, IsFault}
 use Rattle.qc_layout.specs.Records.{record_fault}
 use Rattle.qc_layout.specs.Disks.{bits_of}
-use Rattle.qc_layout.specs.Opening.{ImageFault, BadBlock, Reserved, Compressed, Misaligned, PastLimit, Overlap, Uncounted, cluster_fault}
+use Rattle.qc_layout.specs.Directory.{DirectoryFault, TooManyEntries, Entries, Flags, Kind, Granularity, ExtraData, NameForm, SameName, TableSize, TableEntry, Tail}
+use Rattle.qc_layout.specs.Opening.{ImageFault, BadBlock, Reserved, Compressed, Misaligned, PastLimit, Overlap, Uncounted, Bitmap, cluster_fault, image_fault}
 
 -- ---- the texts, by the names of the rules
 
@@ -51,6 +52,19 @@ record_reason record_faults.RecordUnit = codes "RecordUnit"
 abbrev pub numbered : List ℕ → ℕ → List ℕ
 numbered name n = name ++ codes " " ++ decimal n
 
+abbrev pub listing_reason : DirectoryFault → List ℕ
+listing_reason TooManyEntries = codes "TooManyEntries"
+listing_reason Entries = codes "Entries"
+listing_reason Flags = codes "Flags"
+listing_reason Kind = codes "Kind"
+listing_reason Granularity = codes "Granularity"
+listing_reason ExtraData = codes "ExtraData"
+listing_reason NameForm = codes "NameForm"
+listing_reason SameName = codes "SameName"
+listing_reason TableSize = codes "TableSize"
+listing_reason TableEntry = codes "TableEntry"
+listing_reason Tail = codes "Tail"
+
 abbrev pub image_reason : ImageFault → List ℕ
 image_reason (BadBlock at) = numbered (codes "BadBlock") at
 image_reason (Reserved at) = numbered (codes "Reserved") at
@@ -59,6 +73,7 @@ image_reason (Misaligned at) = numbered (codes "Misaligned") at
 image_reason (PastLimit offset) = numbered (codes "PastLimit") offset
 image_reason (Overlap offset) = numbered (codes "Overlap") offset
 image_reason (Uncounted offset) = numbered (codes "Uncounted") offset
+image_reason (Bitmap refused) = numbered (listing_reason refused.fault) refused.entry
 
 -- ---- the first rule that a file fails
 
@@ -103,4 +118,4 @@ IsSourceFault file NotTarget = ⊥
 IsSourceFault file (Record fault) = ⊥
 IsSourceFault file NotAdopted = (h : header.Header) × Spells parts.Source file h × (h.own ≡ owns.Absent)
 IsSourceFault file EpochSpent = HasEpoch file (2 ^ 64 - 1)
-IsSourceFault file (Clusters fault) = (epoch : ℕ) × (epoch < 2 ^ 64 - 1) × HasEpoch file epoch × (cluster_fault file ≡ Some fault)
+IsSourceFault file (Clusters fault) = (epoch : ℕ) × (epoch < 2 ^ 64 - 1) × HasEpoch file epoch × (image_fault file ≡ Some fault)

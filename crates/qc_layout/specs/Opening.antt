@@ -1,13 +1,18 @@
 -- How an opening goes through the clusters of an image: what it tests and which clusters it claims, in order, and what it refuses first.
-use Rattle.std.specs.Prelude.{ℕ, ◌+◌, ◌*◌, ◌/◌, ◌%◌, ◌^◌, List, [], ◌∷◌, ◌++◌, map, flat_map, not, ◌||◌, nat_le, ◌==◌, if◌then◌else◌, Option, Some, None, Result, Ok, Err}
+use Rattle.std.specs.Prelude.{ℕ, ◌+◌, ◌*◌, ◌/◌, ◌%◌, ◌^◌, List, [], ◌∷◌, ◌++◌, map, flat_map, not, ◌||◌, nat_le, ◌==◌, if◌then◌else◌, Option, Some, None, Result, Ok, Err, Bool, ◌&&◌, nat_lt}
 use Rattle.std.specs.List.{list_any, range_with_len}
+use Rattle.std.specs.Option.{option_or}
 use Rattle.std.specs.Int.{div_ceil}
 use Rattle.disk_model.specs.Files.{u64_at}
 use Rattle.qc_layout.specs.declared.entry.EntryFault.{EntryFault}
 use Rattle.qc_layout.specs.declared.entry.EntryFault.TheVariants as entry_faults
 use Rattle.qc_layout.specs.declared.entry.L2Entry.{L2Entry}
 use Rattle.qc_layout.specs.declared.entry.L2Entry.TheVariants as entries
+use Rattle.qc_layout.specs.declared.header.DirPlace.{DirPlace}
+use Rattle.bitmap_model.specs.Bitmaps.{most_bitmaps}
 use Rattle.qc_layout.specs.Entries.{l2_of}
+use Rattle.qc_layout.specs.Directory.{ListedBitmap, RefusedEntry, DirectoryFault, TooManyEntries, Entries, TableEntry, Tail, Piece, Zeros, Ones, Data, directory_in, listed_from, end_from, longest_directory, first_refused, head_fault, refused, table_word, piece_at, is_bad_word, is_in_use, has_tail, spans_in, spans_size}
+use Rattle.qc_layout.specs.Owners.{Held, Directory, BitsTable, Bits, Spans}
 use Rattle.qc_layout.specs.Header.{fields_of}
 use Rattle.qc_layout.specs.Disks.{bits_of, blocks_in, block_at, table_at, reach_of, refcount, words_in, place_of}
 use Rattle.qc_layout.specs.Owners.{Who}
@@ -25,6 +30,8 @@ pub data ImageFault : Type 0 where
   PastLimit : (offset : ℕ) → ImageFault
   Overlap : (offset : ℕ) → ImageFault
   Uncounted : (offset : ℕ) → ImageFault
+  -- of the directory of bitmaps
+  Bitmap : (refused : RefusedEntry) → ImageFault
 
 -- one step of an opening: an entry that may have a fault, a cluster that must lie below the reach, or one that its owner refers to
 pub data Check : Type 0 where
@@ -122,3 +129,71 @@ map_checks file =
 -- why an image's clusters are refused
 unfoldable pub cluster_fault : List ℕ → Option ImageFault
 cluster_fault file = refused_after file [] (count_checks file ++ map_checks file)
+
+-- ---- bitmaps
+
+-- one step of an opening of the directory: a rule that may fail, or a cluster that is held for bitmaps
+pub data BitmapCheck : Type 0 where
+  Rule : (refused : Option RefusedEntry) → BitmapCheck
+  Hold : (held : Held) (cluster : ℕ) → BitmapCheck
+
+-- what is refused first of the bitmaps, where these clusters have been claimed before
+abbrev pub bitmaps_refused_after : List ℕ → List ℕ → List BitmapCheck → Option ImageFault
+bitmaps_refused_after file claimed [] = None
+bitmaps_refused_after file claimed (Rule refused ∷ checks) = elim refused [ Some found ↦ Some (Bitmap found) | None ↦ bitmaps_refused_after file claimed checks ]
+bitmaps_refused_after file claimed (Hold held k ∷ checks) = elim (claim_fault file claimed k) [ Some found ↦ Some found | None ↦ bitmaps_refused_after file (k ∷ claimed) checks ]
+
+abbrev pub refused_if : Bool → ℕ → DirectoryFault → Option RefusedEntry
+refused_if fails entry fault = if fails then refused entry fault else None
+
+-- the clusters that n bytes from an offset on fill, each held so
+abbrev pub held_from : List ℕ → Held → ℕ → ℕ → List BitmapCheck
+held_from file held offset n = map (Hold held) (clusters_from (bits_of file) offset n)
+
+-- what is done with the cluster of a piece, if it has one
+abbrev pub with_data : List ℕ → Held → Piece → List BitmapCheck
+with_data file held Zeros = []
+with_data file held Ones = []
+with_data file held (Data offset) = Hold held (offset / 2 ^ bits_of file) ∷ []
+
+-- entry i of the table of bitmap n: it is tested, its cluster is claimed, and no bit behind the last granule is set in that
+abbrev pub word_checks : List ℕ → ℕ → ListedBitmap → ℕ → List BitmapCheck
+word_checks file n b i =
+    Rule (refused_if (is_bad_word (bits_of file) (table_word file b i)) n TableEntry)
+    ∷ (with_data file (Bits b.name i) (piece_at file b i) ++ Rule (refused_if (not (is_in_use b) && has_tail file b i) n Tail) ∷ [])
+
+-- the table of bitmap n, and then its entries
+abbrev pub bitmap_checks : List ℕ → ℕ → ListedBitmap → List BitmapCheck
+bitmap_checks file n b =
+    held_from file (BitsTable b.name) b.head.table_offset (8 * b.head.table_size)
+    ++ flat_map (word_checks file n b) (range_with_len 0 b.head.table_size)
+
+abbrev pub bitmaps_checks : List ℕ → ℕ → List ListedBitmap → List BitmapCheck
+bitmaps_checks file n [] = []
+bitmaps_checks file n (b ∷ bs) = bitmap_checks file n b ++ bitmaps_checks file (n + 1) bs
+
+abbrev pub spans_checks : List ℕ → DirPlace → Option ℕ → List BitmapCheck
+spans_checks file place None = []
+spans_checks file place (Some offset) = held_from file Spans offset (spans_size place.count)
+
+-- Of the directory: how many entries it has and how long it is; its clusters; that the entries fill it; each entry's numbers and name; then bitmap by bitmap its
+-- table, entry by entry; and the table of spans, where it is used.
+abbrev pub directory_checks : List ℕ → Option DirPlace → List BitmapCheck
+directory_checks file None = []
+directory_checks file (Some place) =
+    Rule (refused_if (nat_lt most_bitmaps place.count) 0 TooManyEntries)
+    ∷ Rule (refused_if (nat_lt longest_directory place.size) 0 Entries)
+    ∷ (held_from file Directory place.offset place.size
+    ++ Rule (refused_if (not (end_from place.count file place.offset == place.offset + place.size)) 0 Entries)
+    ∷ Rule (first_refused (head_fault file) [] (listed_from place.count file place.offset))
+    ∷ (bitmaps_checks file 0 (listed_from place.count file place.offset) ++ spans_checks file place (spans_in file)))
+
+abbrev pub claimed_in : List Check → List ℕ
+claimed_in [] = []
+claimed_in (Entry fault ∷ checks) = claimed_in checks
+claimed_in (Reached k ∷ checks) = claimed_in checks
+claimed_in (Claim owner k ∷ checks) = k ∷ claimed_in checks
+
+-- why a source's clusters and bitmaps are refused
+unfoldable pub image_fault : List ℕ → Option ImageFault
+image_fault file = option_or (cluster_fault file) (bitmaps_refused_after file (claimed_in (count_checks file ++ map_checks file)) (directory_checks file (directory_in file)))
