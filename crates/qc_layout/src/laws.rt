@@ -1,5 +1,6 @@
 //! Laws of the definitions. Each function does nothing; its contract is the law.
 
+ghost use Rattle.qc_layout.specs.Examples.{DirectoriesAreRead};
 ghost use Rattle.qc_layout.specs.Laws.{OneListing, OneFault, FaultOrHeader, OneHeader, FromStart, OneDisk, FindsAsSpelled, NoDirectoryStoresNothing, StoredIsShaped, OwnersByName};
 
 /// One list of extensions at most stands in a place.
@@ -51,4 +52,10 @@ pub fn stored_is_shaped()
 /// Who holds a cluster for bitmaps depends on which are listed, and not on their order.
 pub fn owners_by_name()
     ensures { OwnersByName }
+{}
+
+/// Worked examples of directories: what they store, and why they are refused.
+#[tactic(auto, unfolding(crate::proofs::Computing::directory_computes))]
+pub fn directories_are_read()
+    ensures { DirectoriesAreRead }
 {}
