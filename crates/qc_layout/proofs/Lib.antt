@@ -1,5 +1,6 @@
 pub mod Cited
 pub mod Directories
+pub mod Computing
 pub mod EntryLaws
 pub mod HeaderLaws
 pub mod Kept

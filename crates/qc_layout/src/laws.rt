@@ -1,5 +1,6 @@
 //! Laws of the definitions. Each function does nothing; its contract is the law.
 
+ghost use Rattle.qc_layout.specs.Examples.{DirectoriesAreRead};
 ghost use Rattle.qc_layout.specs.Laws.{OneListing, OneFault, FaultOrHeader, OneHeader, FromStart, OneDisk, OpeningIsExact, FindsAsSpelled, NoDirectoryStoresNothing, StoredIsShaped, OwnersByName};
 
 /// One list of extensions at most stands in a place.
@@ -56,4 +57,10 @@ pub fn owners_by_name()
 /// An opening refuses nothing of an image's clusters exactly where its tables pass the rules.
 pub fn opening_is_exact()
     ensures { OpeningIsExact }
+{}
+
+/// Worked examples of directories: what they store, and why they are refused.
+#[tactic(auto, unfolding(crate::proofs::Computing::directory_computes))]
+pub fn directories_are_read()
+    ensures { DirectoriesAreRead }
 {}
