@@ -1,6 +1,6 @@
 //! Laws of the definitions. Each function does nothing; its contract is the law.
 
-ghost use Rattle.qc_layout.specs.Laws.{OneListing, OneFault, FaultOrHeader, OneHeader, FromStart, OneDisk, OpeningIsExact};
+ghost use Rattle.qc_layout.specs.Laws.{OneListing, OneFault, FaultOrHeader, OneHeader, FromStart, OneDisk, OpeningIsExact, RefusalsHaveCauses};
 
 /// One list of extensions at most stands in a place.
 pub fn one_listing()
@@ -36,4 +36,9 @@ pub fn one_disk()
 /// An opening refuses nothing of an image's clusters exactly where its tables pass the rules.
 pub fn opening_is_exact()
     ensures { OpeningIsExact }
+{}
+
+/// What it refuses has a cause: an entry that says so, or who refers to the cluster.
+pub fn refusals_have_causes()
+    ensures { RefusalsHaveCauses }
 {}
