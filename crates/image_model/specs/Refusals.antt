@@ -11,8 +11,9 @@ use Rattle.qc_layout.specs.declared.records.RecordFault.TheVariants as record_fa
 use Rattle.qc_layout.specs.Spelling.{Spells, IsFault}
 use Rattle.qc_layout.specs.Records.{record_fault}
 use Rattle.qc_layout.specs.Disks.{bits_of}
-use Rattle.qc_layout.specs.Directory.{DirectoryFault, TooManyEntries, Entries, Flags, Kind, Granularity, ExtraData, NameForm, SameName, TableSize, TableEntry, Tail}
-use Rattle.qc_layout.specs.Opening.{ImageFault, BadBlock, Reserved, Compressed, Misaligned, PastLimit, Overlap, Uncounted, Bitmap, cluster_fault, image_fault}
+use Rattle.qc_layout.specs.Directory.{RefusedEntry, DirectoryFault, TooManyEntries, Entries, Flags, Kind, Granularity, ExtraData, NameForm, SameName, TableSize, TableEntry, Tail}
+use Rattle.qc_layout.specs.Opening.{ImageFault, BadBlock, Reserved, Compressed, Misaligned, PastLimit, Overlap, Uncounted, cluster_fault}
+use Rattle.qc_layout.specs.Loading.{Cluster, Listed, image_fault}
 
 -- ---- the texts, by the names of the rules
 
@@ -73,11 +74,11 @@ image_reason (Misaligned at) = numbered (codes "Misaligned") at
 image_reason (PastLimit offset) = numbered (codes "PastLimit") offset
 image_reason (Overlap offset) = numbered (codes "Overlap") offset
 image_reason (Uncounted offset) = numbered (codes "Uncounted") offset
-image_reason (Bitmap refused) = numbered (listing_reason refused.fault) refused.entry
 
 -- ---- the first rule that a file fails
 
--- a rule of its header; no record, or a rule of that; no id and epoch of a source, or no epoch left; or a rule of its clusters
+-- a rule of its header; no record, or a rule of that; no id and epoch of a source, or no epoch left; a rule of its clusters, or one
+-- of its directory of bitmaps
 pub data FileFault : Type 0 where
   Header : (fault : HeaderFault) → FileFault
   NotTarget : FileFault
@@ -85,6 +86,7 @@ pub data FileFault : Type 0 where
   NotAdopted : FileFault
   EpochSpent : FileFault
   Clusters : (fault : ImageFault) → FileFault
+  Bitmaps : (refused : RefusedEntry) → FileFault
 
 abbrev pub file_reason : FileFault → List ℕ
 file_reason (Header fault) = header_reason fault
@@ -93,6 +95,7 @@ file_reason (Record fault) = record_reason fault
 file_reason NotAdopted = codes "NotAdopted"
 file_reason EpochSpent = codes "EpochSpent"
 file_reason (Clusters fault) = image_reason fault
+file_reason (Bitmaps refused) = numbered (listing_reason refused.fault) refused.entry
 
 -- the header passes, and says this of a record
 abbrev pub HasRecord : List ℕ → List ℕ → Type 0
@@ -106,10 +109,14 @@ IsTargetFault file (Record fault) = (bytes : List ℕ) × HasRecord file bytes �
 IsTargetFault file NotAdopted = ⊥
 IsTargetFault file EpochSpent = ⊥
 IsTargetFault file (Clusters fault) = (bytes : List ℕ) × HasRecord file bytes × (record_fault (bits_of file) bytes ≡ None) × (cluster_fault file ≡ Some fault)
+IsTargetFault file (Bitmaps refused) = ⊥
 
 -- the header passes, and says this epoch
 abbrev pub HasEpoch : List ℕ → ℕ → Type 0
 HasEpoch file epoch = (h : header.Header) × (id : List ℕ) × (offset : ℕ) × (size : ℕ) × Spells parts.Source file h × (h.own ≡ owns.Source id epoch offset size)
+
+abbrev pub HasEpochLeft : List ℕ → Type 0
+HasEpochLeft file = (epoch : ℕ) × (epoch < 2 ^ 64 - 1) × HasEpoch file epoch
 
 -- it is the first that the file fails as a source
 abbrev pub IsSourceFault : List ℕ → FileFault → Type 0
@@ -118,4 +125,5 @@ IsSourceFault file NotTarget = ⊥
 IsSourceFault file (Record fault) = ⊥
 IsSourceFault file NotAdopted = (h : header.Header) × Spells parts.Source file h × (h.own ≡ owns.Absent)
 IsSourceFault file EpochSpent = HasEpoch file (2 ^ 64 - 1)
-IsSourceFault file (Clusters fault) = (epoch : ℕ) × (epoch < 2 ^ 64 - 1) × HasEpoch file epoch × (image_fault file ≡ Some fault)
+IsSourceFault file (Clusters fault) = HasEpochLeft file × (image_fault file ≡ Some (Cluster fault))
+IsSourceFault file (Bitmaps refused) = HasEpochLeft file × (image_fault file ≡ Some (Listed refused))

@@ -1,14 +1,12 @@
 -- The claims of an image: which they are, and that none stands twice.
-use Rattle.std.proofs.lemmas.Grind.{div_ceil_times}
+use Rattle.std.proofs.lemmas.Grind.{common_steps, div_ceil_times}
 use Rattle.std.proofs.Common.{rules}
-use Rattle.std.proofs.Common.{◌≡◌, ◌≢◌, ℕ, ◌+◌, ◌-◌, ◌*◌, ◌/◌, ◌%◌, ◌^◌, ◌<◌, ◌≤◌, List, [], ◌∷◌, ◌++◌, length, map, false, ◌⊎◌, inl, inr, Option, Some, None, Result, Ok, Err, refl, sym, ap, ◌∙◌, subst, arith}
-use Rattle.std.specs.Prelude.{◌==◌, flat_map}
+use Rattle.std.proofs.Common.{◌≡◌, ◌≢◌, ℕ, ◌+◌, ◌-◌, ◌*◌, ◌/◌, ◌%◌, ◌^◌, ◌<◌, ◌≤◌, List, length, map, inl, inr, Option, Some, None, Result, Ok, Err, refl, sym, ap, ◌∙◌, arith}
+use Rattle.std.specs.Prelude.{◌==◌, ◌||◌, not, if◌then◌else◌}
 use Rattle.std.specs.Int.{div_ceil}
-use Rattle.std.specs.List.{range_with_len}
-use Rattle.std.proofs.lemmas.Bool.{ne_eqb}
+use Rattle.std.proofs.lemmas.Bool.{eq-eqb}
 use Rattle.std.proofs.lemmas.Nat.{pow-add}
-use Rattle.std.proofs.lemmas.List.Concat.{flat_map_single}
-use Rattle.std.proofs.Math.Nat.{lt_of_mul-lt-mul_left, mul-le-mul_left, mul-div_cancel_left}
+use Rattle.std.proofs.Math.Nat.{lt_of_mul-lt-mul_left, mul-le-mul_left, mul-div_cancel_left, mul-mod_right, mul_assoc}
 use Rattle.disk_model.specs.Files.{u64_at}
 use Rattle.qc_layout.specs.declared.entry.EntryFault.{EntryFault}
 use Rattle.qc_layout.specs.declared.entry.L2Entry.{L2Entry}
@@ -20,11 +18,10 @@ use Rattle.qc_layout.specs.Header.{fields_of, number_fault, first_of, or_else, f
 use Rattle.qc_layout.specs.Disks.{bits_of, blocks_in, block_at, table_at, words_in, place_of}
 use Rattle.qc_layout.specs.Owners.{Who, HostIs, Refers}
 use Rattle.qc_layout.specs.Owners.Who.{Head, Counts, Block, Tables, Table, Guest}
-use Rattle.qc_layout.specs.Room.{IsInOrder}
-use Rattle.qc_layout.specs.Opening.ImageFault.{Compressed}
-use Rattle.qc_layout.specs.Opening.{ImageFault, Check, fault_at, table_entry, clusters_from, count_clusters, block_fault, with_block, count_tests, count_claims, count_checks, slot_checks, slot_of, table_checks, map_checks}
-use Rattle.qc_layout.specs.Opening.Check.{Entry, Reached, Claim}
-use Rattle.qc_layout.proofs.Checking.{Has, has_left, has_right, has_each}
+use Rattle.qc_layout.specs.Opening.{ImageFault, Check, each_below, block_entry, block_named, block_tests, block_claims, count_clusters, count_tests, count_claims, count_checks, slot_checks, slot_of, table_checks, table_clusters, map_checks, image_checks}
+use Rattle.qc_layout.specs.Opening.ImageFault.{BadBlock}
+use Rattle.qc_layout.specs.Opening.Check.{Refused, Reached, Claim}
+use Rattle.qc_layout.proofs.Checking.{Has, has_left, has_right, has_each, has_mapped}
 use Rattle.qc_layout.proofs.NumberLaws.{bits_low}
 use Rattle.qc_layout.proofs.Passing.{none_right, numbers_pass}
 
@@ -76,127 +73,147 @@ pub place_cluster : (bits k : ℕ) → 512 ≤ 2 ^ bits → place_of bits k / 2 
 unfolding place_of
 place_cluster bits k some = mul-div_cancel_left k (omega arith)
 
+named_cluster : (bits x k : ℕ) → 512 ≤ 2 ^ bits → x ≡ place_of bits k → x / 2 ^ bits ≡ k
+named_cluster bits x k some is = ap (λ (y : ℕ). y / 2 ^ bits) is ∙ place_cluster bits k some
+
 pub cluster_place : (bits x : ℕ) → 512 ≤ 2 ^ bits → x % 2 ^ bits ≡ 0 → place_of bits (x / 2 ^ bits) ≡ x
 unfolding place_of
 cluster_place bits x some whole = omega arith
 
--- ---- what each owner claims
+-- ---- entries of the refcount table
 
-abbrev pub image_checks : List ℕ → List Check
-image_checks file = count_checks file ++ map_checks file
+-- an entry that names a cluster's start has none of bits 0 to 8 set
+block_whole : (file : List ℕ) (i : ℕ) → IsSized file → u64_at file (block_entry file i) % 2 ^ bits_of file ≡ 0
+    → (u64_at file (block_entry file i) % 512 ≡ 0) × (block_at file i % 2 ^ bits_of file ≡ 0)
+block_whole file i size whole =
+    let c : ℕ = 2 ^ bits_of file in
+    let m : ℕ = 2 ^ (bits_of file - 9) in
+    let u : ℕ = u64_at file (block_entry file i) in
+    let some : 512 ≤ c = size.some in
+    let parts : c * (u / c) ≡ u = omega arith in
+    let sectors : 512 * (m * (u / c)) ≡ u = sym (mul_assoc 512 m (u / c)) ∙ ap (λ (x : ℕ). x * (u / c)) (sym size.sectors) ∙ parts in
+    let zero : u % 512 ≡ 0 = ap (λ (x : ℕ). x % 512) (sym sectors) ∙ mul-mod_right 512 (m * (u / c)) in
+    let same : block_at file i ≡ u = omega arith in
+    (zero, ap (λ (x : ℕ). x % c) same ∙ whole)
 
--- among what each cluster of a range gives
-has_mapped : (f : ℕ → Check) (a n i : ℕ) → a ≤ i → i < a + n → Has (map f (range_with_len a n)) (f i)
-has_mapped f a n i low high = subst (λ (cs : List Check). Has cs (f i)) (flat_map_single f (range_with_len a n)) (has_each (λ k. f k ∷ []) a n i (f i) low high (inl refl))
+bad_tests : (a b : ℕ) (bad fault : ImageFault) (named : Option ℕ) (r : Result (Option ℕ) ImageFault)
+    → r ≡ (if not (a == 0) || not (b == 0) then Err bad else Ok named) → r ≡ Err fault → (fault ≡ bad) × (a ≡ 0 → b ≡ 0 → ⊥)
+bad_tests a b bad fault named r is e = grind (arith, common_steps, eq-eqb)
 
--- what stands where
+-- an entry that is refused is bad,
+pub block_bad : (file : List ℕ) (i : ℕ) (fault : ImageFault) → IsSized file → block_named file i ≡ Err fault
+    → (fault ≡ BadBlock (block_entry file i)) × (u64_at file (block_entry file i) % 2 ^ bits_of file ≢ 0)
+block_bad file i fault size is =
+    let named : Option ℕ = (if block_at file i == 0 then None else Some (block_at file i)) in
+    let word : ℕ = u64_at file (block_entry file i) in
+    let bad : ImageFault = BadBlock (block_entry file i) in
+    let t = bad_tests (word % 512) (block_at file i % 2 ^ bits_of file) bad fault named (block_named file i) refl is in
+    (t.0, λ whole. let w = block_whole file i size whole in t.1 w.0 w.1)
+
+-- one that passes names a cluster's start,
+pub block_good : (file : List ℕ) (i : ℕ) (named : Option ℕ) → block_named file i ≡ Ok named → u64_at file (block_entry file i) % 2 ^ bits_of file ≡ 0
+block_good file i named is = search rules
+
+-- and the block is what stands there, or none
+pub block_some : (file : List ℕ) (i block : ℕ) → block_named file i ≡ Ok (Some block) → (block ≡ block_at file i) × (block ≢ 0) × (block % 2 ^ bits_of file ≡ 0)
+block_some file i block is = search rules
+
+block_none : (file : List ℕ) (i : ℕ) → block_named file i ≡ Ok None → block_at file i ≡ 0
+block_none file i is = search rules
+
+-- ---- where its checks stand
+
 has_tests : (file : List ℕ) (c : Check) → Has (count_tests file) c → Has (image_checks file) c
 has_tests file c has = has_left (count_checks file) (map_checks file) c (has_left (count_tests file) (count_claims file) c has)
 
 has_claims : (file : List ℕ) (c : Check) → Has (count_claims file) c → Has (image_checks file) c
 has_claims file c has = has_left (count_checks file) (map_checks file) c (has_right (count_tests file) (count_claims file) c has)
 
-has_map : (file : List ℕ) (i : ℕ) (c : Check) → i < (fields_of file).l1_size → Has (table_checks file i (table_at file i)) c → Has (image_checks file) c
-has_map file i c below has =
+-- of entry i of the refcount table
+pub has_block_test : (file : List ℕ) (i : ℕ) (c : Check) → i < blocks_in file → Has (block_tests file (block_named file i)) c → Has (image_checks file) c
+has_block_test file i c below has =
+    let f : ℕ → List Check = λ j. block_tests file (block_named file j) in
+    has_tests file c (has_right (map Reached (count_clusters file)) (each_below (blocks_in file) f) c (has_each f (blocks_in file) i c below has))
+
+has_block_claim : (file : List ℕ) (i : ℕ) (c : Check) → i < blocks_in file → Has (block_claims file i (block_named file i)) c → Has (image_checks file) c
+has_block_claim file i c below has =
+    let f : ℕ → List Check = λ j. block_claims file j (block_named file j) in
+    has_claims file c (inr (has_right (map (Claim Counts) (count_clusters file)) (each_below (blocks_in file) f) c (has_each f (blocks_in file) i c below has)))
+
+-- of entry i of the first level
+pub has_table_check : (file : List ℕ) (i : ℕ) (c : Check) → i < (fields_of file).l1_size → Has (table_checks file i (table_at file i)) c
+    → Has (image_checks file) c
+has_table_check file i c below has =
+    let f : ℕ → List Check = λ j. table_checks file j (table_at file j) in
     has_right (count_checks file) (map_checks file) c
-    (has_right (map (Claim Tables) (clusters_from (bits_of file) (fields_of file).l1_table_offset (8 * (fields_of file).l1_size)))
-    (flat_map (λ j. table_checks file j (table_at file j)) (range_with_len 0 (fields_of file).l1_size)) c
-    (has_each (λ j. table_checks file j (table_at file j)) 0 (fields_of file).l1_size i c (omega arith) (omega arith) has))
+    (has_right (map (Claim Tables) (table_clusters file)) (each_below (fields_of file).l1_size f) c (has_each f (fields_of file).l1_size i c below has))
 
--- the test of an entry of the refcount table
-pub has_block_test : (file : List ℕ) (i : ℕ) → i < blocks_in file → Has (image_checks file) (Entry (block_fault file i))
-has_block_test file i below =
-    has_tests file (Entry (block_fault file i))
-    (has_right (map Reached (count_clusters file)) (flat_map (λ j. Entry (block_fault file j) ∷ with_block Reached file j) (range_with_len 0 (blocks_in file))) (Entry (block_fault file i))
-    (has_each (λ j. Entry (block_fault file j) ∷ with_block Reached file j) 0 (blocks_in file) i (Entry (block_fault file i)) (omega arith) (omega arith) (inl refl)))
+-- of slot j of its table
+pub has_slot_check : (file : List ℕ) (i table j : ℕ) (c : Check) → i < (fields_of file).l1_size → table_at file i ≡ Ok (Some table)
+    → j < words_in (bits_of file) → Has (slot_of file i table j) c → Has (image_checks file) c
+has_slot_check file i table j c below is inside has =
+    has_table_check file i c below (rw is (inr (has_each (slot_of file i table) (words_in (bits_of file)) j c inside has)))
 
--- a table's entry is refused
-pub has_table_test : (file : List ℕ) (i : ℕ) (fault : EntryFault) → i < (fields_of file).l1_size → table_at file i ≡ Err fault
-    → (found : ImageFault) × Has (image_checks file) (Entry (Some found))
-has_table_test file i fault below is = (
-  fault_at (table_entry file i) fault,
-  has_map file i (Entry (Some (fault_at (table_entry file i) fault))) below (rw is (inl refl)),
-)
-
--- and a slot's
-has_slot : (file : List ℕ) (i table j : ℕ) (c : Check) → i < (fields_of file).l1_size → table_at file i ≡ Ok (Some table) → j < words_in (bits_of file)
-    → Has (slot_of file i table j) c → Has (image_checks file) c
-has_slot file i table j c below is inside has =
-    has_map file i c below (subst (λ (r : Result (Option ℕ) EntryFault). Has (table_checks file i r) c) (sym is)
-    (inr (has_each (slot_of file i table) 0 (words_in (bits_of file)) j c (omega arith) (omega arith) has)))
-
-slot_test : (bits at : ℕ) (slot : Who) (r : Result L2Entry EntryFault) → IsInOrder r ⊎ ((found : ImageFault) × Has (slot_checks bits slot at r) (Entry (Some found)))
-slot_test bits at slot (Ok entries.Hole) = inl tt
-slot_test bits at slot (Ok (entries.Zero host)) = inl tt
-slot_test bits at slot (Ok (entries.Stored host)) = inl tt
-slot_test bits at slot (Ok entries.Compressed) = inr (Compressed at, inl refl)
-slot_test bits at slot (Err fault) = inr (fault_at at fault, inl refl)
-
-pub has_slot_test : (file : List ℕ) (i table j : ℕ) → i < (fields_of file).l1_size → table_at file i ≡ Ok (Some table) → j < words_in (bits_of file)
-    → IsInOrder (l2_of (bits_of file) (u64_at file (table + 8 * j))) ⊎ ((found : ImageFault) × Has (image_checks file) (Entry (Some found)))
-has_slot_test file i table j below is inside =
-    elim (slot_test (bits_of file) (table + 8 * j) (Guest i j) (l2_of (bits_of file) (u64_at file (table + 8 * j)))) [
-      | inl order ↦ inl order
-      | inr bad ↦ inr (bad.0, has_slot file i table j (Entry (Some bad.0)) below is inside bad.1)
-    ]
-
-has_head : (file : List ℕ) (k : ℕ) → Refers file Head k → Has (image_checks file) (Claim Head k)
-has_head file k is = has_claims file (Claim Head k) (inl (ap (Claim Head) (sym is)))
+-- ---- what each owner claims
 
 has_counts : (file : List ℕ) (k : ℕ) → IsSized file → Refers file Counts k → Has (image_checks file) (Claim Counts k)
 unfolding place_of
 has_counts file k size meets =
+    let from : ℕ = (fields_of file).refcount_table_offset in
     let n : ℕ = (fields_of file).refcount_table_clusters in
     let c : ℕ = 2 ^ bits_of file in
     let some : 512 ≤ c = size.some in
-    let m = met c (fields_of file).refcount_table_offset (c * n) n k (omega arith) size.counts (omega arith) meets.0 meets.1 in
+    let m = met c from (c * n) n k (omega arith) size.counts (omega arith) meets.0 meets.1 in
     has_claims file (Claim Counts k) (inr
-    (has_left (map (Claim Counts) (count_clusters file)) (flat_map (λ i. with_block (Claim (Block i)) file i) (range_with_len 0 (blocks_in file))) (Claim Counts k)
-    (has_mapped (Claim Counts) ((fields_of file).refcount_table_offset / c) n k m.0 m.1)))
+    (has_left (map (Claim Counts) (count_clusters file)) (each_below (blocks_in file) (λ i. block_claims file i (block_named file i))) (Claim Counts k)
+    (has_mapped (Claim Counts) (from / c) n k m.0 m.1)))
 
-block_has : (check : ℕ → Check) (file : List ℕ) (i : ℕ) → block_at file i ≢ 0 → Has (with_block check file i) (check (block_at file i / 2 ^ bits_of file))
-block_has check file i some = let other : (block_at file i == 0) ≡ false = ne_eqb (block_at file i) 0 some in rw other (inl refl)
+-- no entry is refused
+abbrev pub IsClean : List ℕ → Type 0
+IsClean file = (fault : ImageFault) → Has (image_checks file) (Refused fault) → ⊥
 
-has_block : (file : List ℕ) (i k : ℕ) → IsSized file → Refers file (Block i) k → Has (image_checks file) (Claim (Block i) k)
-has_block file i k size is =
-    let e : block_at file i / 2 ^ bits_of file ≡ k = ap (λ (x : ℕ). x / 2 ^ bits_of file) is.2 ∙ place_cluster (bits_of file) k size.some in
-    has_claims file (Claim (Block i) k) (inr
-    (has_right (map (Claim Counts) (count_clusters file)) (flat_map (λ j. with_block (Claim (Block j)) file j) (range_with_len 0 (blocks_in file))) (Claim (Block i) k)
-    (has_each (λ j. with_block (Claim (Block j)) file j) 0 (blocks_in file) i (Claim (Block i) k) (omega arith) (omega (arith, is.0))
-    (subst (λ (x : ℕ). Has (with_block (Claim (Block i)) file i) (Claim (Block i) x)) e (block_has (Claim (Block i)) file i is.1)))))
+has_block : (file : List ℕ) (i k : ℕ) (r : Result (Option ℕ) ImageFault) → IsSized file → IsClean file → Refers file (Block i) k → block_named file i ≡ r
+    → Has (image_checks file) (Claim (Block i) k)
+has_block file i k (Err fault) size clean is named =
+    absurd (clean fault (has_block_test file i (Refused fault) is.0 (rw named (inl refl))))
+has_block file i k (Ok None) size clean is named = absurd (is.1 (block_none file i named))
+has_block file i k (Ok (Some block)) size clean is named =
+    let e : block / 2 ^ bits_of file ≡ k = named_cluster (bits_of file) block k size.some ((block_some file i block named).0 ∙ is.2) in
+    has_block_claim file i (Claim (Block i) k) is.0 (rw named (inl (ap (Claim (Block i)) e)))
 
 has_tables : (file : List ℕ) (k : ℕ) → IsSized file → Refers file Tables k → Has (image_checks file) (Claim Tables k)
 unfolding place_of
 has_tables file k size meets =
+    let from : ℕ = (fields_of file).l1_table_offset in
     let n : ℕ = 8 * (fields_of file).l1_size in
     let c : ℕ = 2 ^ bits_of file in
     let some : 512 ≤ c = size.some in
-    let m = met c (fields_of file).l1_table_offset n (div_ceil n c) k (omega arith) size.tables (div_ceil_times n c (omega arith)).0 meets.0 meets.1 in
+    let m = met c from n (div_ceil n c) k (omega arith) size.tables (div_ceil_times n c (omega arith)).0 meets.0 meets.1 in
     has_right (count_checks file) (map_checks file) (Claim Tables k)
-    (has_left (map (Claim Tables) (clusters_from (bits_of file) (fields_of file).l1_table_offset n)) (flat_map (λ i. table_checks file i (table_at file i)) (range_with_len 0 (fields_of file).l1_size)) (Claim Tables k)
-    (has_mapped (Claim Tables) ((fields_of file).l1_table_offset / c) (div_ceil n c) k m.0 m.1))
+    (has_left (map (Claim Tables) (table_clusters file)) (each_below (fields_of file).l1_size (λ i. table_checks file i (table_at file i))) (Claim Tables k)
+    (has_mapped (Claim Tables) (from / c) (div_ceil n c) k m.0 m.1))
 
 has_table : (file : List ℕ) (i k : ℕ) → IsSized file → Refers file (Table i) k → Has (image_checks file) (Claim (Table i) k)
 has_table file i k size is =
-    has_map file i (Claim (Table i) k) is.0 (subst (λ (r : Result (Option ℕ) EntryFault). Has (table_checks file i r) (Claim (Table i) k)) (sym is.1)
-    (inl (ap (Claim (Table i)) (place_cluster (bits_of file) k size.some))))
+    has_table_check file i (Claim (Table i) k) is.0 (rw is.1 (inl (ap (Claim (Table i)) (place_cluster (bits_of file) k size.some))))
 
-slot_has : (bits at k : ℕ) (slot : Who) (r : Result L2Entry EntryFault) → 512 ≤ 2 ^ bits → HostIs r (place_of bits k) → Has (slot_checks bits slot at r) (Claim slot k)
+slot_has : (bits at k : ℕ) (slot : Who) (r : Result L2Entry EntryFault) → 512 ≤ 2 ^ bits → HostIs r (place_of bits k)
+    → Has (slot_checks bits slot at r) (Claim slot k)
 slot_has bits at k slot (Ok entries.Hole) some is = absurd is
-slot_has bits at k slot (Ok (entries.Zero host)) some is = inl (ap (Claim slot) (ap (λ (x : ℕ). x / 2 ^ bits) is ∙ place_cluster bits k some))
-slot_has bits at k slot (Ok (entries.Stored host)) some is = inl (ap (Claim slot) (ap (λ (x : ℕ). x / 2 ^ bits) is ∙ place_cluster bits k some))
+slot_has bits at k slot (Ok (entries.Zero host)) some is = inl (ap (Claim slot) (named_cluster bits host k some is))
+slot_has bits at k slot (Ok (entries.Stored host)) some is = inl (ap (Claim slot) (named_cluster bits host k some is))
 slot_has bits at k slot (Ok entries.Compressed) some is = absurd is
 slot_has bits at k slot (Err fault) some is = absurd is
 
 has_guest : (file : List ℕ) (i j k : ℕ) → IsSized file → Refers file (Guest i j) k → Has (image_checks file) (Claim (Guest i j) k)
 has_guest file i j k size is =
-    has_slot file i is.0 j (Claim (Guest i j) k) is.1 is.2 is.3
+    has_slot_check file i is.0 j (Claim (Guest i j) k) is.1 is.2 is.3
     (slot_has (bits_of file) (is.0 + 8 * j) k (Guest i j) (l2_of (bits_of file) (u64_at file (is.0 + 8 * j))) size.some is.4)
 
-pub has_claim : (file : List ℕ) (owner : Who) (k : ℕ) → IsSized file → Refers file owner k → Has (image_checks file) (Claim owner k)
-has_claim file Head k size is = has_head file k is
-has_claim file Counts k size is = has_counts file k size is
-has_claim file (Block i) k size is = has_block file i k size is
-has_claim file Tables k size is = has_tables file k size is
-has_claim file (Table i) k size is = has_table file i k size is
-has_claim file (Guest i j) k size is = has_guest file i j k size is
+pub has_claim : (file : List ℕ) (owner : Who) (k : ℕ) → IsSized file → IsClean file → Refers file owner k → Has (image_checks file) (Claim owner k)
+has_claim file Head k size clean is = has_claims file (Claim Head k) (inl (ap (Claim Head) (sym is)))
+has_claim file Counts k size clean is = has_counts file k size is
+has_claim file (Block i) k size clean is = has_block file i k (block_named file i) size clean is refl
+has_claim file Tables k size clean is = has_tables file k size is
+has_claim file (Table i) k size clean is = has_table file i k size is
+has_claim file (Guest i j) k size clean is = has_guest file i j k size is

@@ -1,5 +1,5 @@
 -- The laws, as statements.
-use Rattle.std.specs.Prelude.{◌≡◌, ◌↔◌, ℕ, ◌<◌, ◌≤◌, max, List, [], length, take, None, Contains}
+use Rattle.std.specs.Prelude.{◌≡◌, ◌↔◌, ℕ, ◌<◌, ◌≤◌, max, List, [], length, take, Some, None, Contains}
 use Rattle.disk_model.specs.Files.{reading}
 use Rattle.bitmap_model.specs.Bitmaps.{AreShapedEntries}
 use Rattle.qc_layout.specs.declared.extension.Extension.{Extension}
@@ -9,7 +9,7 @@ use Rattle.qc_layout.specs.declared.header.Part.{Part}
 use Rattle.qc_layout.specs.Header.{fields_of, number_fault}
 use Rattle.qc_layout.specs.Extensions.{AreExtensions, list_end}
 use Rattle.qc_layout.specs.Disks.{IsReadAs, Stands}
-use Rattle.qc_layout.specs.Opening.{cluster_fault}
+use Rattle.qc_layout.specs.Opening.{ImageFault, cluster_fault, IsCause}
 use Rattle.qc_layout.specs.Room.{TablesPass}
 use Rattle.qc_layout.specs.Spelling.{Spells, IsHeaderOf, IsFault}
 use Rattle.qc_layout.specs.Directory.{ListedBitmap, directory_in, own_of, listed_in, directory_fault, stored_in}
@@ -65,7 +65,13 @@ OneDisk = (part : Part) (file disk other : List ℕ) → Stands part file disk �
 
 -- where a header's numbers pass, an opening refuses nothing exactly where the tables pass its rules
 abbrev pub OpeningIsExact : Type 0
-OpeningIsExact = (part : Part) (file : List ℕ) → number_fault part (length file) (fields_of file) ≡ None → (cluster_fault file ≡ None) ↔ TablesPass file
+OpeningIsExact = (part : Part) (file : List ℕ) → number_fault part (length file) (fields_of file) ≡ None
+    → (cluster_fault file ≡ None) ↔ TablesPass file
+
+-- and what it refuses has a cause
+abbrev pub RefusalsHaveCauses : Type 0
+RefusalsHaveCauses = (part : Part) (file : List ℕ) (fault : ImageFault) → number_fault part (length file) (fields_of file) ≡ None
+    → cluster_fault file ≡ Some fault → IsCause file fault
 
 -- ---- bitmaps
 

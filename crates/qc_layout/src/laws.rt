@@ -1,7 +1,7 @@
 //! Laws of the definitions. Each function does nothing; its contract is the law.
 
 ghost use Rattle.qc_layout.specs.Examples.{DirectoriesAreRead};
-ghost use Rattle.qc_layout.specs.Laws.{OneListing, OneFault, FaultOrHeader, OneHeader, FromStart, OneDisk, OpeningIsExact, FindsAsSpelled, NoDirectoryStoresNothing, StoredIsShaped, OwnersByName};
+ghost use Rattle.qc_layout.specs.Laws.{OneListing, OneFault, FaultOrHeader, OneHeader, FromStart, OneDisk, OpeningIsExact, RefusalsHaveCauses, FindsAsSpelled, NoDirectoryStoresNothing, StoredIsShaped, OwnersByName};
 
 /// One list of extensions at most stands in a place.
 pub fn one_listing()
@@ -63,4 +63,9 @@ pub fn opening_is_exact()
 #[tactic(auto, unfolding(crate::proofs::Computing::directory_computes))]
 pub fn directories_are_read()
     ensures { DirectoriesAreRead }
+{}
+
+/// What it refuses has a cause: an entry that says so, or who refers to the cluster.
+pub fn refusals_have_causes()
+    ensures { RefusalsHaveCauses }
 {}
