@@ -1,5 +1,6 @@
 //! Laws of the definitions. Each function does nothing; its contract is the law.
 
+ghost use Rattle.qc_layout.specs.Openings.{OpeningsRefuse};
 ghost use Rattle.qc_layout.specs.Laws.{OneListing, OneFault, FaultOrHeader, OneHeader, FromStart, OneDisk, OpeningIsExact, RefusalsHaveCauses};
 
 /// One list of extensions at most stands in a place.
@@ -41,4 +42,9 @@ pub fn opening_is_exact()
 /// What it refuses has a cause: an entry that says so, or who refers to the cluster.
 pub fn refusals_have_causes()
     ensures { RefusalsHaveCauses }
+{}
+
+/// Worked examples of an opening.
+pub fn openings_refuse()
+    ensures { OpeningsRefuse }
 {}
