@@ -215,19 +215,19 @@ weaker file Q R so (Refused fault) is = is
 weaker file Q R so (Reached k) is = is
 weaker file Q R so (Claim owner k) is = (is.0, so owner k is.1)
 
-pub orderly_none : (file : List ℕ) (Q : Owners) → IsOrderly file Q []
-orderly_none file Q = record { meant = λ c has. absurd has; apart = tt }
+pub orderly_none : {file : List ℕ} {Q : Owners} → IsOrderly file Q []
+orderly_none = record { meant = λ c has. absurd has; apart = tt }
 
-pub orderly_one : (file : List ℕ) (Q : Owners) (c : Check) → IsMeant file Q c → IsOrderly file Q (c ∷ [])
-orderly_one file Q c is = record {
+pub orderly_one : {file : List ℕ} {Q : Owners} {c : Check} → IsMeant file Q c → IsOrderly file Q (c ∷ [])
+orderly_one {file} {Q} is = record {
   meant = λ d has. elim has [ inl e ↦ subst (IsMeant file Q) e is | inr later ↦ absurd later ];
   apart = (λ owner k e has. absurd has, tt);
 }
 
 -- with claims of others
-pub orderly_append : (file : List ℕ) (Q R S : Owners) (xs ys : List Check) → Within Q S → Within R S → Apart Q R
-    → IsOrderly file Q xs → IsOrderly file R ys → IsOrderly file S (xs ++ ys)
-orderly_append file Q R S xs ys left right apart one other = record {
+pub orderly_append : {file : List ℕ} {Q R S : Owners} {xs ys : List Check} → IsOrderly file Q xs → IsOrderly file R ys
+    → Within Q S → Within R S → Apart Q R → IsOrderly file S (xs ++ ys)
+orderly_append {file} {Q} {R} {S} {xs} {ys} one other left right apart = record {
   meant = λ c has. elim (has_either xs ys c has) [
     | inl this ↦ weaker file Q S left c (one.meant c this)
     | inr that ↦ weaker file R S right c (other.meant c that)
@@ -239,27 +239,21 @@ orderly_append file Q R S xs ys left right apart one other = record {
 orderly_from : (file : List ℕ) (R : Owners) (key : Who → ℕ → ℕ) (f : ℕ → List Check) (a n : ℕ)
     → ((i : ℕ) → a ≤ i → i < a + n → IsOrderly file (λ owner k. R owner k × (key owner k ≡ i)) (f i))
     → IsOrderly file (λ owner k. R owner k × (a ≤ key owner k)) (flat_map f (range_with_len a n))
-orderly_from file R key f a zero each = orderly_none file (λ owner k. R owner k × (a ≤ key owner k))
+orderly_from file R key f a zero each = orderly_none
 orderly_from file R key f a (suc n) each =
-    orderly_append file (λ owner k. R owner k × (key owner k ≡ a)) (λ owner k. R owner k × (a + 1 ≤ key owner k))
-    (λ owner k. R owner k × (a ≤ key owner k)) (f a) (flat_map f (range_with_len (a + 1) n))
+    orderly_append (each a (omega arith) (omega arith)) (orderly_from file R key f (a + 1) n (λ i low high. each i (omega arith) (omega arith)))
     (λ owner k is. (is.0, omega (arith, is.1))) (λ owner k is. (is.0, omega (arith, is.1))) (λ owner k this that. absurd (omega (arith, this.1, that.1)))
-    (each a (omega arith) (omega arith)) (orderly_from file R key f (a + 1) n (λ i low high. each i (omega arith) (omega arith)))
 
-orderly_as : (file : List ℕ) (Q R : Owners) (checks : List Check) → Within Q R → IsOrderly file Q checks → IsOrderly file R checks
-orderly_as file Q R checks so are = record { meant = λ c has. weaker file Q R so c (are.meant c has); apart = are.apart }
+orderly_as : {file : List ℕ} {Q R : Owners} {checks : List Check} → IsOrderly file Q checks → Within Q R → IsOrderly file R checks
+orderly_as {file} {Q} {R} are so = record { meant = λ c has. weaker file Q R so c (are.meant c has); apart = are.apart }
 
 pub orderly_each : (file : List ℕ) (R : Owners) (key : Who → ℕ → ℕ) (f : ℕ → List Check) (n : ℕ)
     → ((i : ℕ) → i < n → IsOrderly file (λ owner k. R owner k × (key owner k ≡ i)) (f i)) → IsOrderly file R (each_below n f)
-orderly_each file R key f n each =
-    orderly_as file (λ owner k. R owner k × (0 ≤ key owner k)) R (each_below n f) (λ owner k is. is.0)
-    (orderly_from file R key f 0 n (λ i low high. each i (omega arith)))
+orderly_each file R key f n each = orderly_as (orderly_from file R key f 0 n (λ i low high. each i (omega arith))) (λ owner k is. is.0)
 
 -- and for each cluster of a range
 pub orderly_range : (file : List ℕ) (check : ℕ → Check) (R : Owners) (from n : ℕ)
     → ((k : ℕ) → from ≤ k → k < from + n → IsMeant file (λ owner j. R owner j × (j ≡ k)) (check k)) → IsOrderly file R (map check (range_with_len from n))
 orderly_range file check R from n each =
     subst (IsOrderly file R) (flat_map_single check (range_with_len from n))
-    (orderly_as file (λ owner k. R owner k × (from ≤ k)) R (flat_map (λ k. check k ∷ []) (range_with_len from n)) (λ owner k is. is.0)
-    (orderly_from file R (λ owner k. k) (λ k. check k ∷ []) from n
-    (λ k low high. orderly_one file (λ owner j. R owner j × (j ≡ k)) (check k) (each k low high))))
+    (orderly_as (orderly_from file R (λ owner k. k) (λ k. check k ∷ []) from n (λ k low high. orderly_one (each k low high))) (λ owner k is. is.0))

@@ -69,7 +69,7 @@ meeting c from n m k some whole enough low high =
     (omega arith, omega arith)
 
 -- the cluster of a place
-pub place_cluster : (bits k : ℕ) → 512 ≤ 2 ^ bits → place_of bits k / 2 ^ bits ≡ k
+place_cluster : (bits k : ℕ) → 512 ≤ 2 ^ bits → place_of bits k / 2 ^ bits ≡ k
 unfolding place_of
 place_cluster bits k some = mul-div_cancel_left k (omega arith)
 

@@ -1,7 +1,7 @@
 -- The checks of an image: there is a cause for each that refuses an entry, an owner for each cluster, and no claim stands twice.
 use Rattle.std.proofs.lemmas.Grind.{div_ceil_times}
 use Rattle.std.proofs.Common.{rules}
-use Rattle.std.proofs.Common.{◌≡◌, ℕ, ◌+◌, ◌*◌, ◌/◌, ◌%◌, ◌^◌, ◌<◌, ◌≤◌, List, [], ◌∷◌, ◌++◌, map, inl, inr, Option, Some, None, Result, Ok, Err, refl, sym, ◌∙◌, subst, arith}
+use Rattle.std.proofs.Common.{◌≡◌, ℕ, ◌+◌, ◌*◌, ◌/◌, ◌%◌, ◌^◌, ◌<◌, ◌≤◌, List, [], ◌∷◌, map, inl, inr, Option, Some, None, Result, Ok, Err, refl, sym, ◌∙◌, subst, arith}
 use Rattle.std.specs.Int.{div_ceil}
 use Rattle.disk_model.specs.Files.{u64_at}
 use Rattle.qc_layout.specs.declared.entry.EntryFault.{EntryFault}
@@ -13,9 +13,8 @@ use Rattle.qc_layout.specs.Header.{fields_of}
 use Rattle.qc_layout.specs.Disks.{bits_of, blocks_in, table_at, words_in, place_of}
 use Rattle.qc_layout.specs.Owners.{Who, HostIs, Refers}
 use Rattle.qc_layout.specs.Owners.Who.{Head, Counts, Block, Tables, Table, Guest}
-use Rattle.qc_layout.specs.Opening.{ImageFault, Check, each_below, block_named, block_tests, block_claims, count_clusters, count_tests, count_claims, count_checks, fault_at, slot_checks, slot_of, table_entry, table_checks, table_clusters, map_checks, image_checks, IsCause, IsFirst, IsSlot}
-use Rattle.qc_layout.specs.Opening.ImageFault.{Compressed}
-use Rattle.qc_layout.specs.Opening.Check.{Refused, Reached, Claim}
+use Rattle.qc_layout.specs.Opening.{ImageFault, each_below, block_named, block_tests, block_claims, count_clusters, count_tests, count_claims, fault_at, slot_checks, slot_of, table_entry, table_checks, map_checks, image_checks, IsCause, IsFirst, IsSlot}
+use Rattle.qc_layout.specs.Opening.Check.{Reached, Claim}
 use Rattle.qc_layout.proofs.Checking.{Owners, IsOrderly, orderly_none, orderly_one, orderly_append, orderly_each, orderly_range}
 use Rattle.qc_layout.proofs.Claims.{IsSized, meeting, cluster_place, block_bad, block_some}
 use Rattle.qc_layout.proofs.EntryLaws.{zero_place, stored_place}
@@ -75,43 +74,39 @@ block_tested : (file : List ℕ) (Q : Owners) (i : ℕ) (r : Result (Option ℕ)
     → IsOrderly file Q (block_tests file r)
 block_tested file Q i (Err fault) size below named =
     let b = block_bad file i fault size named in
-    orderly_one file Q (Refused fault) (subst (IsCause file) (sym b.0) (i, below, refl, b.1))
-block_tested file Q i (Ok None) size below named = orderly_none file Q
-block_tested file Q i (Ok (Some block)) size below named =
-    orderly_one file Q (Reached (block / 2 ^ bits_of file)) (Block i, block_refers file i block size below named)
+    orderly_one (subst (IsCause file) (sym b.0) (i, below, refl, b.1))
+block_tested file Q i (Ok None) size below named = orderly_none
+block_tested file Q i (Ok (Some block)) size below named = orderly_one (Block i, block_refers file i block size below named)
 
 block_claimed : (file : List ℕ) (i : ℕ) (r : Result (Option ℕ) ImageFault) → IsSized file → i < blocks_in file → block_named file i ≡ r
     → IsOrderly file (λ owner k. At 2 owner k × (index owner k ≡ i)) (block_claims file i r)
-block_claimed file i (Err fault) size below named = orderly_none file (λ owner k. At 2 owner k × (index owner k ≡ i))
-block_claimed file i (Ok None) size below named = orderly_none file (λ owner k. At 2 owner k × (index owner k ≡ i))
-block_claimed file i (Ok (Some block)) size below named =
-    orderly_one file (λ owner k. At 2 owner k × (index owner k ≡ i)) (Claim (Block i) (block / 2 ^ bits_of file))
-    (block_refers file i block size below named, (refl, refl))
+block_claimed file i (Err fault) size below named = orderly_none
+block_claimed file i (Ok None) size below named = orderly_none
+block_claimed file i (Ok (Some block)) size below named = orderly_one (block_refers file i block size below named, (refl, refl))
 
 tests_orderly : (file : List ℕ) → IsSized file → IsOrderly file NoOwner (count_tests file)
 tests_orderly file size =
-    let n : ℕ = blocks_in file in
-    let f : ℕ → List Check = λ i. block_tests file (block_named file i) in
-    orderly_append file NoOwner NoOwner NoOwner (map Reached (count_clusters file)) (each_below n f)
-    (λ owner k is. is) (λ owner k is. is) (λ owner k is other. is)
+    orderly_append
     (orderly_range file Reached NoOwner ((fields_of file).refcount_table_offset / 2 ^ bits_of file) (fields_of file).refcount_table_clusters
     (λ k low high. (Counts, count_refers file k size low high)))
-    (orderly_each file NoOwner index f n (λ i below.
-    block_tested file (λ owner k. NoOwner owner k × (index owner k ≡ i)) i (block_named file i) size below refl))
+    (orderly_each file NoOwner index (λ i. block_tests file (block_named file i)) (blocks_in file)
+    (λ i below. block_tested file (λ owner k. NoOwner owner k × (index owner k ≡ i)) i (block_named file i) size below refl))
+    (λ owner k is. is) (λ owner k is. is) (λ owner k is other. is)
 
 counts_orderly : (file : List ℕ) → IsSized file → IsOrderly file (UpTo 2) (count_claims file)
 counts_orderly file size =
-    let n : ℕ = blocks_in file in
-    let f : ℕ → List Check = λ i. block_claims file i (block_named file i) in
     let Later : Owners = λ owner k. From 1 owner k × UpTo 2 owner k in
-    orderly_append file (At 0) Later (UpTo 2) (Claim Head 0 ∷ []) (map (Claim Counts) (count_clusters file) ++ each_below n f)
+    let head : IsOrderly file (At 0) (Claim Head 0 ∷ []) = orderly_one (refl, refl) in
+    let table : IsOrderly file (At 1) (map (Claim Counts) (count_clusters file)) =
+    orderly_range file (Claim Counts) (At 1) ((fields_of file).refcount_table_offset / 2 ^ bits_of file) (fields_of file).refcount_table_clusters
+    (λ k low high. (count_refers file k size low high, (refl, refl))) in
+    let blocks : IsOrderly file (At 2) (each_below (blocks_in file) (λ i. block_claims file i (block_named file i))) =
+    orderly_each file (At 2) index (λ i. block_claims file i (block_named file i)) (blocks_in file)
+    (λ i below. block_claimed file i (block_named file i) size below refl) in
+    orderly_append head
+    (orderly_append {S = Later} table blocks
+    (λ owner k is. (omega arith, omega arith)) (λ owner k is. (omega arith, omega arith)) (λ owner k is later. absurd (omega arith)))
     (λ owner k is. omega arith) (λ owner k is. is.1) (λ owner k is later. absurd (omega (arith, later.0)))
-    (orderly_one file (At 0) (Claim Head 0) (refl, refl))
-    (orderly_append file (At 1) (At 2) Later (map (Claim Counts) (count_clusters file)) (each_below n f)
-    (λ owner k is. (omega arith, omega arith)) (λ owner k is. (omega arith, omega arith)) (λ owner k is later. absurd (omega arith))
-    (orderly_range file (Claim Counts) (At 1) ((fields_of file).refcount_table_offset / 2 ^ bits_of file) (fields_of file).refcount_table_clusters
-    (λ k low high. (count_refers file k size low high, (refl, refl))))
-    (orderly_each file (At 2) index f n (λ i below. block_claimed file i (block_named file i) size below refl)))
 
 -- ---- of the two levels
 
@@ -157,20 +152,17 @@ OfSlot i j owner k = (At 5 owner k × (index owner k ≡ i)) × (slot owner k �
 slot_orderly : (file : List ℕ) (i table j : ℕ) (r : Result L2Entry EntryFault) → IsSized file → i < (fields_of file).l1_size → table_at file i ≡ Ok (Some table)
     → j < words_in (bits_of file) → l2_of (bits_of file) (u64_at file (table + 8 * j)) ≡ r
     → IsOrderly file (OfSlot i j) (slot_checks (bits_of file) (Guest i j) (table + 8 * j) r)
-slot_orderly file i table j (Ok entries.Hole) size below named inside is = orderly_none file (OfSlot i j)
+slot_orderly file i table j (Ok entries.Hole) size below named inside is = orderly_none
 slot_orderly file i table j (Ok (entries.Zero host)) size below named inside is =
     let whole = (zero_place (bits_of file) (u64_at file (table + 8 * j)) host is).aligned in
-    orderly_one file (OfSlot i j) (Claim (Guest i j) (host / 2 ^ bits_of file))
-    (guest_refers file i table j host (Ok (entries.Zero host)) size below named inside is whole refl, ((refl, refl), refl))
+    orderly_one (guest_refers file i table j host (Ok (entries.Zero host)) size below named inside is whole refl, ((refl, refl), refl))
 slot_orderly file i table j (Ok (entries.Stored host)) size below named inside is =
     let whole = (stored_place (bits_of file) (u64_at file (table + 8 * j)) host is).aligned in
-    orderly_one file (OfSlot i j) (Claim (Guest i j) (host / 2 ^ bits_of file))
-    (guest_refers file i table j host (Ok (entries.Stored host)) size below named inside is whole refl, ((refl, refl), refl))
+    orderly_one (guest_refers file i table j host (Ok (entries.Stored host)) size below named inside is whole refl, ((refl, refl), refl))
 slot_orderly file i table j (Ok entries.Compressed) size below named inside is =
-    orderly_one file (OfSlot i j) (Refused (Compressed (table + 8 * j))) (slot_says file i table j (Ok entries.Compressed) below named inside is)
+    orderly_one (slot_says file i table j (Ok entries.Compressed) below named inside is)
 slot_orderly file i table j (Err fault) size below named inside is =
-    orderly_one file (OfSlot i j) (Refused (fault_at (table + 8 * j) fault))
-    (slot_refused file (table + 8 * j) fault (slot_says file i table j (Err fault) below named inside is))
+    orderly_one (slot_refused file (table + 8 * j) fault (slot_says file i table j (Err fault) below named inside is))
 
 -- claims under entry i
 abbrev UnderEntry : ℕ → Owners
@@ -179,36 +171,31 @@ UnderEntry i owner k = From 4 owner k × (index owner k ≡ i)
 table_orderly : (file : List ℕ) (i : ℕ) (r : Result (Option ℕ) EntryFault) → IsSized file → i < (fields_of file).l1_size → table_at file i ≡ r
     → IsOrderly file (UnderEntry i) (table_checks file i r)
 table_orderly file i (Err fault) size below is =
-    orderly_one file (UnderEntry i) (Refused (fault_at (table_entry file i) fault))
-    (first_refused file i fault (record { i = i; below = below; place = refl; is = is }))
-table_orderly file i (Ok None) size below is = orderly_none file (UnderEntry i)
+    orderly_one (first_refused file i fault (record { i = i; below = below; place = refl; is = is }))
+table_orderly file i (Ok None) size below is = orderly_none
 table_orderly file i (Ok (Some table)) size below is =
     let bits : ℕ = bits_of file in
     let place : place_of bits (table / 2 ^ bits) ≡ table = cluster_place bits table size.some (table_whole bits (u64_at file (table_entry file i)) table is) in
-    let Q : Owners = λ owner k. At 4 owner k × (index owner k ≡ i) in
-    let R : Owners = λ owner k. At 5 owner k × (index owner k ≡ i) in
-    orderly_append file Q R (UnderEntry i) (Claim (Table i) (table / 2 ^ bits) ∷ []) (each_below (words_in bits) (slot_of file i table))
+    let claim : IsOrderly file (λ owner k. At 4 owner k × (index owner k ≡ i)) (Claim (Table i) (table / 2 ^ bits) ∷ []) =
+    orderly_one ((below, rw place is), (refl, refl)) in
+    orderly_append claim
+    (orderly_each file (λ owner k. At 5 owner k × (index owner k ≡ i)) slot (slot_of file i table) (words_in bits)
+    (λ j inside. slot_orderly file i table j (l2_of bits (u64_at file (table + 8 * j))) size below is inside refl))
     (λ owner k q. (omega (arith, q.0), q.1)) (λ owner k q. (omega (arith, q.0), q.1)) (λ owner k q other. absurd (omega (arith, q.0, other.0)))
-    (orderly_one file Q (Claim (Table i) (table / 2 ^ bits)) ((below, rw place is), (refl, refl)))
-    (orderly_each file R slot (slot_of file i table) (words_in bits) (λ j inside.
-    slot_orderly file i table j (l2_of bits (u64_at file (table + 8 * j))) size below is inside refl))
 
 map_orderly : (file : List ℕ) → IsSized file → IsOrderly file (From 3) (map_checks file)
 map_orderly file size =
     let n : ℕ = (fields_of file).l1_size in
-    let f : ℕ → List Check = λ i. table_checks file i (table_at file i) in
-    orderly_append file (At 3) (From 4) (From 3) (map (Claim Tables) (table_clusters file)) (each_below n f)
-    (λ owner k is. omega arith) (λ owner k is. omega arith) (λ owner k is other. absurd (omega arith))
+    orderly_append
     (orderly_range file (Claim Tables) (At 3) ((fields_of file).l1_table_offset / 2 ^ bits_of file) (div_ceil (8 * n) (2 ^ bits_of file))
     (λ k low high. (tables_refer file k size low high, (refl, refl))))
-    (orderly_each file (From 4) index f n (λ i below. table_orderly file i (table_at file i) size below refl))
+    (orderly_each file (From 4) index (λ i. table_checks file i (table_at file i)) n (λ i below. table_orderly file i (table_at file i) size below refl))
+    (λ owner k is. omega arith) (λ owner k is. omega arith) (λ owner k is other. absurd (omega arith))
 
 -- ---- of an image
 
 pub image_orderly : (file : List ℕ) → IsSized file → IsOrderly file (From 0) (image_checks file)
 image_orderly file size =
-    orderly_append file (UpTo 2) (From 3) (From 0) (count_checks file) (map_checks file) (λ owner k is. omega arith) (λ owner k is. omega arith)
-    (λ owner k is other. absurd (omega arith))
-    (orderly_append file NoOwner (UpTo 2) (UpTo 2) (count_tests file) (count_claims file) (λ owner k is. absurd is) (λ owner k is. is) (λ owner k is other. is)
-    (tests_orderly file size) (counts_orderly file size))
-    (map_orderly file size)
+    orderly_append
+    (orderly_append {S = UpTo 2} (tests_orderly file size) (counts_orderly file size) (λ owner k is. absurd is) (λ owner k is. is) (λ owner k is other. is))
+    (map_orderly file size) (λ owner k is. omega arith) (λ owner k is. omega arith) (λ owner k is other. absurd (omega arith))

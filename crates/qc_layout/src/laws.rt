@@ -1,5 +1,6 @@
 //! Laws of the definitions. Each function does nothing; its contract is the law.
 
+ghost use Rattle.qc_layout.specs.Openings.{OpeningsRefuse};
 ghost use Rattle.qc_layout.specs.Examples.{DirectoriesAreRead};
 ghost use Rattle.qc_layout.specs.Laws.{OneListing, OneFault, FaultOrHeader, OneHeader, FromStart, OneDisk, OpeningIsExact, RefusalsHaveCauses, FindsAsSpelled, NoDirectoryStoresNothing, StoredIsShaped, OwnersByName};
 
@@ -68,4 +69,9 @@ pub fn directories_are_read()
 /// What it refuses has a cause: an entry that says so, or who refers to the cluster.
 pub fn refusals_have_causes()
     ensures { RefusalsHaveCauses }
+{}
+
+/// Worked examples of an opening.
+pub fn openings_refuse()
+    ensures { OpeningsRefuse }
 {}
