@@ -66,7 +66,18 @@ pub record Counted (file : List ℕ) : Type 0 where
   pub below : (a : Who) (k : ℕ) → Refers file a k → k < reach_of file
   pub counted : (a : Who) (k : ℕ) → Refers file a k → 0 < refcount file k
 
--- and each that has one is counted once, any other not
+-- it isn't held for bitmaps
+abbrev pub IsPlain : Who → Type 0
+IsPlain (Bitmaps held) = ⊥
+IsPlain who = Unit {0}
+
+-- the same of clusters that aren't held for bitmaps
+pub record PlainCounted (file : List ℕ) : Type 0 where
+  pub once : (a b : Who) (k : ℕ) → IsPlain a → IsPlain b → Refers file a k → Refers file b k → a ≡ b
+  pub below : (a : Who) (k : ℕ) → IsPlain a → Refers file a k → k < reach_of file
+  pub counted : (a : Who) (k : ℕ) → IsPlain a → Refers file a k → 0 < refcount file k
+
+-- each that has one is counted once, any other not
 pub record Tight (file : List ℕ) : Type 0 where
   pub counted : Counted file
   pub ones : (a : Who) (k : ℕ) → Refers file a k → refcount file k ≡ 1

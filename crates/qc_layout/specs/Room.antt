@@ -1,14 +1,17 @@
 -- Tables that are in order, and which clusters of an image can still be handed out (qcow2 specification, "Host cluster management").
-use Rattle.std.specs.Prelude.{◌≡◌, ℕ, ◌+◌, ◌-◌, ◌*◌, ◌%◌, ◌^◌, ◌<◌, ◌≤◌, List, length, Bool, ◌&&◌, nat_lt, ◌==◌, if◌then◌else◌, Option, Some, Result, Ok, Err}
+use Rattle.std.specs.Prelude.{◌≡◌, ℕ, ◌+◌, ◌-◌, ◌*◌, ◌%◌, ◌^◌, ◌<◌, ◌≤◌, List, length, Bool, ◌&&◌, nat_lt, ◌==◌, if◌then◌else◌, Option, Some, None, Result, Ok, Err}
 use Rattle.std.specs.List.{range_with_len, count_by}
 use Rattle.disk_model.specs.Files.{u64_at}
 use Rattle.qc_layout.specs.declared.entry.EntryFault.{EntryFault}
 use Rattle.qc_layout.specs.declared.entry.L2Entry.{L2Entry}
 use Rattle.qc_layout.specs.declared.entry.L2Entry.TheVariants.{Hole, Zero, Stored, Compressed}
+use Rattle.qc_layout.specs.declared.header.Part.{Part}
+use Rattle.qc_layout.specs.declared.header.Part.TheVariants as parts
 use Rattle.qc_layout.specs.Entries.{l2_of}
 use Rattle.qc_layout.specs.Header.{fields_of}
 use Rattle.qc_layout.specs.Disks.{bits_of, place_of, words_in, counts_in, blocks_in, block_at, table_at, refcount, reach_of}
-use Rattle.qc_layout.specs.Owners.{Counted}
+use Rattle.qc_layout.specs.Directory.{directory_fault}
+use Rattle.qc_layout.specs.Owners.{Counted, PlainCounted}
 
 -- ---- tables in order
 
@@ -20,14 +23,19 @@ IsInOrder (Ok (Stored host)) = Unit {0}
 IsInOrder (Ok Compressed) = ⊥
 IsInOrder (Err fault) = ⊥
 
--- The tables pass the rules of an opening: blocks begin at clusters, each entry of both levels is in order, and each cluster that is
--- referred to is so once, lies below the reach and is counted.
-pub record TablesPass (file : List ℕ) : Type 0 where
+-- The clusters pass the rules of an opening: each that is referred to is so once, lies below the reach and is counted, and the directory of
+-- bitmaps breaks no rule. The opening of a backup doesn't look at bitmaps.
+abbrev pub ClustersPass : Part → List ℕ → Type 0
+ClustersPass parts.Target file = PlainCounted file
+ClustersPass part file = Counted file × (directory_fault file ≡ None)
+
+-- The tables pass the rules of an opening: blocks begin at clusters, each entry of both levels is in order, and so are the clusters.
+pub record TablesPass (part : Part) (file : List ℕ) : Type 0 where
   pub blocks : (i : ℕ) → i < blocks_in file → u64_at file ((fields_of file).refcount_table_offset + 8 * i) % 2 ^ bits_of file ≡ 0
   pub tables : (i : ℕ) → i < (fields_of file).l1_size → (table : Option ℕ) × (table_at file i ≡ Ok table)
   pub entries : (i table j : ℕ) → i < (fields_of file).l1_size → table_at file i ≡ Ok (Some table) → j < words_in (bits_of file)
       → IsInOrder (l2_of (bits_of file) (u64_at file (table + 8 * j)))
-  pub counted : Counted file
+  pub clusters : ClustersPass part file
 
 -- ---- room
 

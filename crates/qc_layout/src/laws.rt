@@ -1,6 +1,6 @@
 //! Laws of the definitions. Each function does nothing; its contract is the law.
 
-ghost use Rattle.qc_layout.specs.Examples.{DirectoriesAreRead};
+ghost use Rattle.qc_layout.specs.Examples.{DirectoriesAreRead, ClustersAreHeld};
 ghost use Rattle.qc_layout.specs.Laws.{OneListing, OneFault, FaultOrHeader, OneHeader, FromStart, OneDisk, FindsAsSpelled, NoDirectoryStoresNothing, StoredIsShaped, OwnersByName};
 
 /// One list of extensions at most stands in a place.
@@ -58,4 +58,9 @@ pub fn owners_by_name()
 #[tactic(auto, unfolding(crate::proofs::Computing::directory_computes))]
 pub fn directories_are_read()
     ensures { DirectoriesAreRead }
+{}
+
+/// Worked examples of clusters that are held for bitmaps.
+pub fn clusters_are_held()
+    ensures { ClustersAreHeld }
 {}
