@@ -1,5 +1,5 @@
 -- Worked examples of directories, in images with clusters of 512 bytes.
-use Rattle.std.specs.Prelude.{◌≡◌, ℕ, List, [], ◌∷◌, ◌++◌, replicate, codes, Bool, true, false, Option, Some, None}
+use Rattle.std.specs.Prelude.{◌≡◌, ℕ, List, [], ◌∷◌, ◌++◌, replicate, codes, Bool, true, false, Some, None}
 use Rattle.span_algebra.specs.declared.points.End.TheVariants.{Now}
 use Rattle.span_algebra.specs.declared.spans.Span.{Span}
 use Rattle.span_algebra.specs.declared.spans.Span.TheVariants.{Unknown, Known}
@@ -48,14 +48,21 @@ b0 flags = bitmap flags 1024 (codes "b0")
 -- In cluster 4 the bits 3 and 8 are set.
 abbrev pub image : ℕ → ℕ → List ℕ → ℕ → ℕ → List ℕ
 image autoclear count directory size word =
-    sector_with (number_bytes (numbers autoclear) ++ replicate 8 0 ++ bitmaps_bytes (Some (record { offset = 512; size = size; count = count })) ++ own_bytes (owns.Source (replicate 16 7) 1 1536 56))
+    sector_with (number_bytes (numbers autoclear) ++ replicate 8 0 ++ bitmaps_bytes (Some (record { offset = 512; size = size; count = count }))
+    ++ own_bytes (owns.Source (replicate 16 7) 1 1536 56))
     ++ sector_with directory
     ++ sector_with (words_bytes (Eight word ∷ []))
     ++ sector_with (words_bytes (Eight 512 ∷ Eight size ∷ []) ++ 2 ∷ replicate 7 0 ++ words_bytes (Eight 1 ∷ Eight 1 ∷ []))
     ++ sector_with (8 ∷ 1 ∷ [])
 
 abbrev pub stored_b0 : List Bool → Span → Bool → Bool → StoredBitmap
-stored_b0 set span recording trusted = record { name = codes "b0"; bits = record { size = 4096; granularity = 512; set = set }; span = span; recording = recording; trusted = trusted }
+stored_b0 set span recording trusted = record {
+  name = codes "b0";
+  bits = record { size = 4096; granularity = 512; set = set };
+  span = span;
+  recording = recording;
+  trusted = trusted;
+}
 
 pub record DirectoriesAreRead : Type 0 where
   -- an entry that isn't in use, where autoclear bit 0 is set, is trusted; all ones have each granule

@@ -1,6 +1,5 @@
 use Rattle.std.proofs.Common.{refl, arith}
 use Rattle.qc_layout.specs.Disks.{place_of}
-use Rattle.qc_layout.specs.Examples.{image, b0, bitmap}
 use Rattle.qc_layout.proofs.Computing.{directory_computes}
 use Rattle.qc_layout.proofs.laws.clusters_are_held.Goals as goal
 
