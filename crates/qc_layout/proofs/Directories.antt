@@ -1,10 +1,9 @@
 -- The directory of bitmaps: what is found of it, and that its bitmaps are in shape.
 use Rattle.std.proofs.lemmas.Grind.{common_steps}
-use Rattle.std.proofs.Common.{rules, ◌≡◌, ℕ, zero, suc, ◌+◌, ◌*◌, ◌^◌, ◌<◌, ◌≤◌, List, [], ◌∷◌, ◌++◌, Bool, true, false, Option, Some, None, refl, sym, ap, ◌∙◌, arith}
-use Rattle.std.specs.Prelude.{bytes_eq, option_map, ◌==◌, length, replicate, map, is_some, if◌then◌else◌, All}
+use Rattle.std.proofs.Common.{rules, ◌≡◌, ℕ, zero, suc, ◌+◌, ◌*◌, ◌^◌, ◌<◌, ◌≤◌, List, [], ◌∷◌, ◌++◌, Bool, true, false, Option, Some, None, refl, ap, ◌∙◌, arith}
+use Rattle.std.specs.Prelude.{bytes_eq, ◌==◌, length, replicate, map, is_some, if◌then◌else◌, All}
 use Rattle.std.specs.List.{list_any}
 use Rattle.std.specs.Int.{is_power_of_two}
-use Rattle.std.specs.Option.{option_or}
 use Rattle.std.proofs.lemmas.List.Folds.{list_any-append}
 use Rattle.std.proofs.lemmas.List.Elements.{All-nil, All-cons}
 use Rattle.std.specs.Int.Count.{ones}
@@ -18,17 +17,15 @@ use Rattle.bitmap_model.specs.Bitmaps.{is_name, is_named, AreApart, IsShapedEntr
 use Rattle.qc_layout.specs.Header.{fields_of}
 use Rattle.qc_layout.specs.declared.extension.Extension.{Extension}
 use Rattle.qc_layout.specs.declared.header.DirPlace.{DirPlace}
-use Rattle.qc_layout.specs.declared.header.Own.{Own}
-use Rattle.qc_layout.specs.declared.header.Part.{Part}
-use Rattle.qc_layout.specs.declared.header.Header.{Header}
-use Rattle.qc_layout.specs.Extensions.{AreExtensions, behind, padded, bitmaps_in, own_in, first_of_kind, bitmaps_kind, own_kind}
-use Rattle.qc_layout.specs.Spelling.{AreIn, Spells}
-use Rattle.qc_layout.specs.Directory.{extensions_from, extensions_in, directory_in, own_of, listed_in, stored_in, directory_fault, spans_in, ListedBitmap, granules_of, granularity_of, is_dirty_in, head_fault, first_refused, DirectoryFault, RefusedEntry, stored_entry, stored_from, listed_from, listed_under, head_at, entry_length, fault_under}
-use Rattle.qc_layout.specs.Owners.{Held, Directory, BitsTable, Bits, Spans, Holds}
+use Rattle.qc_layout.specs.Extensions.{AreExtensions, behind}
+use Rattle.qc_layout.specs.Spelling.{AreIn}
+use Rattle.qc_layout.specs.Directory.{extensions_from, extensions_in, directory_in, listed_in, stored_in, directory_fault, ListedBitmap, granules_of, granularity_of, is_dirty_in, head_fault, first_refused, RefusedEntry, stored_entry, stored_from, listed_from, listed_under, head_at, entry_length, fault_under}
+use Rattle.qc_layout.specs.Owners.{Held, Holds}
 use Rattle.qc_layout.specs.Laws.{StoredIsShaped, FindsAsSpelled, StoresNothing}
 
 -- the extensions that are found are those that stand there, where enough are looked for
-found_from : (n : ℕ) (file : List ℕ) (end from : ℕ) (es : List Extension) → AreExtensions file end from es → end < from + 8 * n + 8 → extensions_from n file end from ≡ es
+found_from : (n : ℕ) (file : List ℕ) (end from : ℕ) (es : List Extension) → AreExtensions file end from es → end < from + 8 * n + 8
+    → extensions_from n file end from ≡ es
 found_from zero file end from [] are enough = refl
 found_from (suc n) file end from [] are enough = grind (arith, common_steps)
 found_from zero file end from (e ∷ es) are enough = grind (arith, common_steps)
@@ -91,7 +88,8 @@ entry_named : (file : List ℕ) (i : ℕ) (b : ListedBitmap) → (restored (stor
 entry_named file i b = grind (arith, common_steps)
 
 -- a set of granules for this disk is in shape
-bits_shaped : (file : List ℕ) (before : List ListedBitmap) (b : ListedBitmap) (set : List Bool) → PassesHead file before b → length set ≡ granules_of (fields_of file).size b
+bits_shaped : (file : List ℕ) (before : List ListedBitmap) (b : ListedBitmap) (set : List Bool) → PassesHead file before b
+    → length set ≡ granules_of (fields_of file).size b
     → IsShaped (record { size = (fields_of file).size; granularity = granularity_of b; set = set })
 bits_shaped file before b set passes long =
     let power = power_is b.head.granularity_bits in
@@ -100,17 +98,20 @@ bits_shaped file before b set passes long =
     let few = passes.few in
     grind (arith, common_steps)
 
-entry_shaped : (file : List ℕ) (i : ℕ) (before : List ListedBitmap) (b : ListedBitmap) → PassesHead file before b → IsShapedEntry (fields_of file).size (stored_entry file i b)
+entry_shaped : (file : List ℕ) (i : ℕ) (before : List ListedBitmap) (b : ListedBitmap) → PassesHead file before b
+    → IsShapedEntry (fields_of file).size (stored_entry file i b)
 entry_shaped file i before b passes =
     let n = granules_of (fields_of file).size b in
     let trusted = bits_shaped file before b (set_of n (is_dirty_in file b)) passes (length-set_of n (is_dirty_in file b)) in
     let untrusted = bits_shaped file before b (replicate n false) passes (length-replicate {A = Bool} n false) in
     grind (arith, common_steps)
 
-stored_shapes : (file : List ℕ) (i : ℕ) (before bs : List ListedBitmap) → PassHeads file before bs → All (IsShapedEntry (fields_of file).size) (stored_from file i bs)
+stored_shapes : (file : List ℕ) (i : ℕ) (before bs : List ListedBitmap) → PassHeads file before bs
+    → All (IsShapedEntry (fields_of file).size) (stored_from file i bs)
 stored_shapes file i before [] passes = All-nil (IsShapedEntry (fields_of file).size)
 stored_shapes file i before (b ∷ bs) passes =
-    All-cons (IsShapedEntry (fields_of file).size) (stored_entry file i b) (stored_from file (i + 1) bs) (entry_shaped file i before b passes.0) (stored_shapes file (i + 1) (before ++ b ∷ []) bs passes.1)
+    All-cons (IsShapedEntry (fields_of file).size) (stored_entry file i b) (stored_from file (i + 1) bs) (entry_shaped file i before b passes.0)
+    (stored_shapes file (i + 1) (before ++ b ∷ []) bs passes.1)
 
 -- a name that none of these has differs from this one
 abbrev IsAmong : List ℕ → List ListedBitmap → Type 0
@@ -122,7 +123,8 @@ among_last before b other none = grind (arith, common_steps, list_any-append)
 among_more : (name : List ℕ) (before : List ListedBitmap) (b : ListedBitmap) → IsAmong name before → IsAmong name (before ++ b ∷ [])
 among_more name before b among other none = grind (arith, common_steps, list_any-append)
 
-no_other : (file name : List ℕ) (i : ℕ) (before bs : List ListedBitmap) → IsAmong name before → PassHeads file before bs → list_any (is_named name) (map restored (stored_from file i bs)) ≡ false
+no_other : (file name : List ℕ) (i : ℕ) (before bs : List ListedBitmap) → IsAmong name before → PassHeads file before bs
+    → list_any (is_named name) (map restored (stored_from file i bs)) ≡ false
 no_other file name i before [] among passes = refl
 no_other file name i before (b ∷ bs) among passes =
     let rest = no_other file name (i + 1) (before ++ b ∷ []) bs (among_more name before b among) passes.1 in
@@ -154,7 +156,8 @@ shaped_under file (Some place) None is =
     let heads : first_refused (head_fault file) [] listed ≡ None = grind (arith, common_steps) in
     let passes = pass_heads file [] listed heads in
     let few : place.count ≤ 64 = grind (arith, common_steps) in
-    record { shapes = stored_shapes file 0 [] listed passes; apart = stored_apart file 0 [] listed passes; few = omega (arith, length-listed place.count file place.offset 0) }
+    let long = length-listed place.count file place.offset 0 in
+    record { shapes = stored_shapes file 0 [] listed passes; apart = stored_apart file 0 [] listed passes; few = omega arith }
 
 pub stored_is_shaped : StoredIsShaped
 unfolding stored_in directory_fault

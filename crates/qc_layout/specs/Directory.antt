@@ -1,4 +1,4 @@
--- The persistent bitmaps of an image: directory, tables, data (qcow2 specification, "Bitmaps"), and this project's table of spans.
+-- The persistent bitmaps of an image (qcow2 specification, "Bitmaps"): directory, tables, data; and this project's table of spans.
 use Rattle.std.specs.Prelude.{ℕ, zero, suc, ◌+◌, ◌-◌, ◌*◌, ◌/◌, ◌%◌, ◌^◌, List, [], ◌∷◌, ◌++◌, length, Bool, true, false, not, ◌&&◌, ◌||◌, nat_lt, nat_le, ◌==◌, if◌then◌else◌, Option, Some, None, is_some, option_map, bytes_eq}
 use Rattle.std.specs.List.{list_any, list_all, range_with_len}
 use Rattle.std.specs.Int.{div_ceil}
@@ -173,7 +173,8 @@ span_at file from =
     else if byte file from == 2 then Known (point_at file (from + 8)) Now
     else Unknown
 
--- The table of spans is used: it begins at a cluster, lies below the reach, repeats where the directory stands, has a span for each entry, and no state above 2.
+-- The table of spans is used: it begins at a cluster, lies below the reach, repeats where the directory stands, has a span for each entry,
+-- and no state above 2.
 abbrev pub spans_fit : List ℕ → DirPlace → ℕ → ℕ → Bool
 spans_fit file place offset size =
     is_place (bits_of file) offset && (nat_le (offset + size) (reach_of file * 2 ^ bits_of file)
@@ -232,12 +233,16 @@ tail_set file (Data offset) from each = list_any (λ n. nat_le from n && is_set_
 abbrev pub has_tail : List ℕ → ListedBitmap → ℕ → Bool
 has_tail file b i = tail_set file (piece_at file b i) (granules_of (fields_of file).size b - i * granules_each (bits_of file)) (granules_each (bits_of file))
 
+-- its granules have 2 to the power of 9 to 31 bytes, and there aren't too many
+abbrev pub has_granularity : ℕ → ListedBitmap → Bool
+has_granularity size b = nat_le 9 b.head.granularity_bits && (nat_le b.head.granularity_bits 31 && nat_le (granules_of size b) (2 ^ 27))
+
 -- why entry b is refused by its numbers and its name, where these entries stand before it
 abbrev pub head_fault : List ℕ → List ListedBitmap → ListedBitmap → Option DirectoryFault
 head_fault file before b =
     if not (b.head.flags / 8 == 0) then Some Flags
     else if not (b.head.kind == 1) then Some Kind
-    else if not (nat_le 9 b.head.granularity_bits && (nat_le b.head.granularity_bits 31 && nat_le (granules_of (fields_of file).size b) (2 ^ 27))) then Some Granularity
+    else if not (has_granularity (fields_of file).size b) then Some Granularity
     else if not (b.head.extra_data_size == 0) then Some ExtraData
     else if not (is_name b.name) then Some NameForm
     else if list_any (λ (other : ListedBitmap). bytes_eq other.name b.name) before then Some SameName
@@ -278,7 +283,7 @@ listed_fault file bs = option_or (first_refused (head_fault file) [] bs) (first_
 abbrev pub refused : ℕ → DirectoryFault → Option RefusedEntry
 refused entry fault = Some (record { entry = entry; fault = fault })
 
--- why a directory is refused, clusters that are named twice or not counted left aside
+-- why a directory is refused; that its clusters are named once and counted is no rule of these
 abbrev pub fault_under : List ℕ → Option DirPlace → Option RefusedEntry
 fault_under file None = None
 fault_under file (Some place) =

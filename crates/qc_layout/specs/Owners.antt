@@ -44,8 +44,10 @@ HostIs entry place = ⊥
 -- they lie in it or not, and two of one name hold as one; such an image is refused.
 abbrev pub Holds : List ℕ → List ListedBitmap → Held → ℕ → Type 0
 Holds file listed Directory k = (place : DirPlace) × (directory_in file ≡ Some place) × Meets (bits_of file) k place.offset place.size
-Holds file listed (BitsTable name) k = (b : ListedBitmap) × Contains listed b × (b.name ≡ name) × Meets (bits_of file) k b.head.table_offset (8 * b.head.table_size)
-Holds file listed (Bits name i) k = (b : ListedBitmap) × Contains listed b × (b.name ≡ name) × (i < b.head.table_size) × (piece_at file b i ≡ Data (place_of (bits_of file) k))
+Holds file listed (BitsTable name) k = (b : ListedBitmap) × Contains listed b × (b.name ≡ name)
+    × Meets (bits_of file) k b.head.table_offset (8 * b.head.table_size)
+Holds file listed (Bits name i) k = (b : ListedBitmap) × Contains listed b × (b.name ≡ name)
+    × (i < b.head.table_size) × (piece_at file b i ≡ Data (place_of (bits_of file) k))
 Holds file listed Spans k = (place : DirPlace) × (offset : ℕ) × (directory_in file ≡ Some place) × (spans_in file ≡ Some offset)
     × Meets (bits_of file) k offset (spans_size place.count)
 

@@ -1,7 +1,7 @@
 //! Laws of the definitions. Each function does nothing; its contract is the law.
 
 ghost use Rattle.qc_layout.specs.Openings.{OpeningsRefuse};
-ghost use Rattle.qc_layout.specs.Examples.{DirectoriesAreRead};
+ghost use Rattle.qc_layout.specs.Examples.{DirectoriesAreRead, ClustersAreHeld};
 ghost use Rattle.qc_layout.specs.Laws.{OneListing, OneFault, FaultOrHeader, OneHeader, FromStart, OneDisk, OpeningIsExact, RefusalsHaveCauses, FindsAsSpelled, NoDirectoryStoresNothing, StoredIsShaped, OwnersByName};
 
 /// One list of extensions at most stands in a place.
@@ -74,4 +74,9 @@ pub fn refusals_have_causes()
 /// Worked examples of an opening.
 pub fn openings_refuse()
     ensures { OpeningsRefuse }
+{}
+
+/// Worked examples of clusters that are held for bitmaps.
+pub fn clusters_are_held()
+    ensures { ClustersAreHeld }
 {}
