@@ -1,0 +1,2 @@
+pub mod FirstSectors
+pub mod NewFiles

@@ -1,0 +1,166 @@
+//! A guest's clusters.
+
+ghost use Rattle.std.specs.Prelude.{◌≡◌, ◌⊎◌, ℕ, List, ◌∷◌, ◌+◌, ◌*◌, ◌^◌, ◌<◌, ◌≤◌, length, OnOk, IsTrue};
+ghost use Rattle.file_device.specs.Calls.{Puts};
+ghost use Rattle.image_model.specs.Clusters.{Shape, per, place, host, guest, word_of, ShowsAs, IsShape, IsTable, IsSafe, Stands, Moves};
+ghost use Rattle.image_model.specs.Calls.{Told, IsSlot, IsIn, IsOpen, IsOnly, IsData, IsPut, IsTablePut, IsFirstPut, Keeps, Shows, SameBut, IsPartly};
+
+use disk_model::{Depot, Failed, FileNo};
+use file_device::write;
+
+/// Writes data into a ready cluster, and names it in the place of a hole.
+pub fn write_hole<D: Depot>(
+    depot: &mut D,
+    file: FileNo,
+    at: u64,
+    bytes: &[u8],
+    slot: u64,
+    entry: u64,
+) -> Result<(), Failed>
+    requires given { file.0 < (D.world depot.old).given }
+    requires end { slot + 8 ≤ 2 ^ 62 }
+    requires data_end { at + length bytes.now ≤ 2 ^ 62 }
+
+    ensures moves { (s : Shape) (disks : List (List ℕ)) (first last k q i j : ℕ) → IsPut s first last k q i j at (length bytes.now) slot entry file.0 (D.world depot.old) →
+        Moves file.0 (IsSafe s ((D.world depot.new).seen file.0 ∷ disks)) (Stands s disks first last file.0) (Stands s ((D.world depot.new).seen file.0 ∷ disks) (k + 1) last file.0) (D.world depot.old) (D.world depot.new) }
+
+    // Whatever it answers, no other cluster of the guest changes.
+    ensures others { (s : Shape) (disks : List (List ℕ)) (first last k q i j : ℕ) → IsPut s first last k q i j at (length bytes.now) slot entry file.0 (D.world depot.old) →
+        Stands s disks first last file.0 (D.world depot.old) → IsTrue (D.world depot.old).tells → IsOnly s i j ((D.world depot.old).seen file.0) ((D.world depot.new).seen file.0) }
+
+    ensures keeps { (s : Shape) (disks : List (List ℕ)) (first last k q i j : ℕ) → IsPut s first last k q i j at (length bytes.now) slot entry file.0 (D.world depot.old) →
+        Stands s disks first last file.0 (D.world depot.old) → IsTrue (D.world depot.old).tells → Keeps s ((D.world depot.old).seen file.0) ((D.world depot.new).seen file.0) }
+
+    // Whatever it answers, the entry is the hole that it was, or the data shows.
+    ensures either { (s : Shape) (disks : List (List ℕ)) (first last k q i j : ℕ) → IsPut s first last k q i j at (length bytes.now) slot entry file.0 (D.world depot.old) →
+        Stands s disks first last file.0 (D.world depot.old) → IsTrue (D.world depot.old).tells → IsOpen s q i j ((D.world depot.new).seen file.0) ⊎ Shows s i j k at bytes.now (λ t. 0) ((D.world depot.new).seen file.0) }
+
+    ensures linked { OnOk result ((s : Shape) (disks : List (List ℕ)) (first last k q i j : ℕ) → IsPut s first last k q i j at (length bytes.now) slot entry file.0 (D.world depot.old) →
+        Stands s disks first last file.0 (D.world depot.old) → IsTrue (D.world depot.old).tells → IsTable s ((D.world depot.new).seen file.0) i q × (host s ((D.world depot.new).seen file.0) i j ≡ place s k)) }
+
+    // The data is there, and zeros around it.
+    ensures shows { OnOk result ((s : Shape) (disks : List (List ℕ)) (first last k q i j : ℕ) → IsPut s first last k q i j at (length bytes.now) slot entry file.0 (D.world depot.old) →
+        Stands s disks first last file.0 (D.world depot.old) → IsTrue (D.world depot.old).tells → Shows s i j k at bytes.now (λ t. 0) ((D.world depot.new).seen file.0)) }
+
+    // Whatever it answers, no other entry of the guest changes.
+    ensures but { (s : Shape) (disks : List (List ℕ)) (first last k q i j : ℕ) → IsPut s first last k q i j at (length bytes.now) slot entry file.0 (D.world depot.old) →
+        Stands s disks first last file.0 (D.world depot.old) → IsTrue (D.world depot.old).tells → SameBut s i j ((D.world depot.old).seen file.0) ((D.world depot.new).seen file.0) }
+
+    // Whatever it answers, the entry is the word that it was, or the data shows.
+    ensures whether { (s : Shape) (disks : List (List ℕ)) (first last k q i j : ℕ) → IsPut s first last k q i j at (length bytes.now) slot entry file.0 (D.world depot.old) →
+        Stands s disks first last file.0 (D.world depot.old) → IsTrue (D.world depot.old).tells → (word_of s ((D.world depot.new).seen file.0) i j ≡ word_of s ((D.world depot.old).seen file.0) i j) ⊎ Shows s i j k at bytes.now (λ t. 0) ((D.world depot.new).seen file.0) }
+
+    ensures puts { Puts file.0 (D.world depot.old) (D.world depot.new) result }
+{
+    write(depot, file, at, bytes)?;
+    write(depot, file, slot, &entry.to_be_bytes())
+}
+
+/// Makes an entry a hole.
+pub fn clear_entry<D: Depot>(depot: &mut D, file: FileNo, slot: u64) -> Result<(), Failed>
+    requires given { file.0 < (D.world depot.old).given }
+    requires end { slot + 8 ≤ 2 ^ 62 }
+
+    ensures moves { (s : Shape) (disks : List (List ℕ)) (first last q i j : ℕ) → IsShape s → IsSlot s q i j slot → Told (λ c. IsTable s c i q) file.0 (D.world depot.old) →
+        Moves file.0 (IsSafe s ((D.world depot.new).seen file.0 ∷ disks)) (Stands s disks first last file.0) (Stands s ((D.world depot.new).seen file.0 ∷ disks) first last file.0) (D.world depot.old) (D.world depot.new) }
+
+    ensures others { (s : Shape) (disks : List (List ℕ)) (first last q i j : ℕ) → IsShape s → IsSlot s q i j slot → Told (λ c. IsTable s c i q) file.0 (D.world depot.old) →
+        Stands s disks first last file.0 (D.world depot.old) → IsTrue (D.world depot.old).tells → IsOnly s i j ((D.world depot.old).seen file.0) ((D.world depot.new).seen file.0) }
+
+    ensures keeps { (s : Shape) (disks : List (List ℕ)) (first last q i j : ℕ) → IsShape s → IsSlot s q i j slot → Told (λ c. IsTable s c i q) file.0 (D.world depot.old) →
+        Stands s disks first last file.0 (D.world depot.old) → IsTrue (D.world depot.old).tells → Keeps s ((D.world depot.old).seen file.0) ((D.world depot.new).seen file.0) }
+
+    ensures cleared { OnOk result ((s : Shape) (disks : List (List ℕ)) (first last q i j : ℕ) → IsShape s → IsSlot s q i j slot → Told (λ c. IsTable s c i q) file.0 (D.world depot.old) →
+        Stands s disks first last file.0 (D.world depot.old) → IsTrue (D.world depot.old).tells → IsOpen s q i j ((D.world depot.new).seen file.0)) }
+
+    // Whatever it answers, no other entry of the guest changes.
+    ensures but { (s : Shape) (disks : List (List ℕ)) (first last q i j : ℕ) → IsShape s → IsSlot s q i j slot → Told (λ c. IsTable s c i q) file.0 (D.world depot.old) →
+        Stands s disks first last file.0 (D.world depot.old) → IsTrue (D.world depot.old).tells → SameBut s i j ((D.world depot.old).seen file.0) ((D.world depot.new).seen file.0) }
+
+    // Whatever it answers, the entry and its bytes are as they were, or it is zero.
+    ensures whether { (s : Shape) (disks : List (List ℕ)) (first last q i j : ℕ) → IsShape s → IsSlot s q i j slot → Told (λ c. IsTable s c i q) file.0 (D.world depot.old) →
+        Stands s disks first last file.0 (D.world depot.old) → IsTrue (D.world depot.old).tells → ((word_of s ((D.world depot.new).seen file.0) i j ≡ word_of s ((D.world depot.old).seen file.0) i j) × ((o : ℕ) → o < s.sectors → ShowsAs s i j o ((D.world depot.new).seen file.0) ((D.world depot.old).seen file.0))) ⊎ (word_of s ((D.world depot.new).seen file.0) i j ≡ 0) }
+
+    ensures puts { Puts file.0 (D.world depot.old) (D.world depot.new) result }
+{
+    let none: u64 = 0;
+    write(depot, file, slot, &none.to_be_bytes())
+}
+
+/// Writes data over a stored cluster, or a part of it.
+pub fn overwrite<D: Depot>(depot: &mut D, file: FileNo, at: u64, bytes: &[u8]) -> Result<(), Failed>
+    requires given { file.0 < (D.world depot.old).given }
+    requires data_end { at + length bytes.now ≤ 2 ^ 62 }
+
+    ensures moves { (s : Shape) (disks : List (List ℕ)) (first last k i j : ℕ) → IsShape s → i < s.tables → j < per s → IsIn s k at (length bytes.now) → Told (IsData s i j k) file.0 (D.world depot.old) →
+        Moves file.0 (IsSafe s ((D.world depot.new).seen file.0 ∷ disks)) (Stands s disks first last file.0) (Stands s ((D.world depot.new).seen file.0 ∷ disks) first last file.0) (D.world depot.old) (D.world depot.new) }
+
+    ensures others { (s : Shape) (disks : List (List ℕ)) (first last k i j : ℕ) → IsShape s → i < s.tables → j < per s → IsIn s k at (length bytes.now) → Told (IsData s i j k) file.0 (D.world depot.old) →
+        Stands s disks first last file.0 (D.world depot.old) → IsTrue (D.world depot.old).tells →
+        IsOnly s i j ((D.world depot.old).seen file.0) ((D.world depot.new).seen file.0) × (host s ((D.world depot.new).seen file.0) i j ≡ place s k) }
+
+    ensures keeps { (s : Shape) (disks : List (List ℕ)) (first last k i j : ℕ) → IsShape s → i < s.tables → j < per s → IsIn s k at (length bytes.now) → Told (IsData s i j k) file.0 (D.world depot.old) →
+        Stands s disks first last file.0 (D.world depot.old) → IsTrue (D.world depot.old).tells → Keeps s ((D.world depot.old).seen file.0) ((D.world depot.new).seen file.0) }
+
+    ensures shows { OnOk result ((s : Shape) (disks : List (List ℕ)) (first last k i j : ℕ) → IsShape s → i < s.tables → j < per s → IsIn s k at (length bytes.now) → Told (IsData s i j k) file.0 (D.world depot.old) →
+        Stands s disks first last file.0 (D.world depot.old) → IsTrue (D.world depot.old).tells → Shows s i j k at bytes.now (guest s ((D.world depot.old).seen file.0) i j) ((D.world depot.new).seen file.0)) }
+
+    // Whatever it answers, no entry of the guest changes.
+    ensures entries { (s : Shape) (disks : List (List ℕ)) (first last k i j : ℕ) → IsShape s → i < s.tables → j < per s → IsIn s k at (length bytes.now) → Told (IsData s i j k) file.0 (D.world depot.old) →
+        Stands s disks first last file.0 (D.world depot.old) → IsTrue (D.world depot.old).tells → (a b : ℕ) → a < s.tables → b < per s → word_of s ((D.world depot.new).seen file.0) a b ≡ word_of s ((D.world depot.old).seen file.0) a b }
+
+    // Whatever it answers, each sector is as it was, or as it is to be.
+    ensures partly { (s : Shape) (disks : List (List ℕ)) (first last k i j : ℕ) → IsShape s → i < s.tables → j < per s → IsIn s k at (length bytes.now) → Told (IsData s i j k) file.0 (D.world depot.old) →
+        Stands s disks first last file.0 (D.world depot.old) → IsTrue (D.world depot.old).tells → IsPartly s i j k at bytes.now ((D.world depot.old).seen file.0) ((D.world depot.new).seen file.0) }
+
+    ensures puts { Puts file.0 (D.world depot.old) (D.world depot.new) result }
+{
+    write(depot, file, at, bytes)
+}
+
+/// Names a ready cluster as a second-level table, whose zeros are holes.
+pub fn add_table<D: Depot>(depot: &mut D, file: FileNo, slot: u64, entry: u64) -> Result<(), Failed>
+    requires given { file.0 < (D.world depot.old).given }
+    requires end { slot + 8 ≤ 2 ^ 62 }
+
+    ensures moves { (s : Shape) (disks : List (List ℕ)) (first last t i : ℕ) → IsTablePut s first last t i slot entry file.0 (D.world depot.old) →
+        Moves file.0 (IsSafe s disks) (Stands s disks first last file.0) (Stands s disks (t + 1) last file.0) (D.world depot.old) (D.world depot.new) }
+
+    ensures keeps { (s : Shape) (disks : List (List ℕ)) (first last t i : ℕ) → IsTablePut s first last t i slot entry file.0 (D.world depot.old) →
+        Stands s disks first last file.0 (D.world depot.old) → IsTrue (D.world depot.old).tells → Keeps s ((D.world depot.old).seen file.0) ((D.world depot.new).seen file.0) }
+
+    ensures linked { OnOk result ((s : Shape) (disks : List (List ℕ)) (first last t i : ℕ) → IsTablePut s first last t i slot entry file.0 (D.world depot.old) →
+        Stands s disks first last file.0 (D.world depot.old) → IsTrue (D.world depot.old).tells → (j : ℕ) → j < per s → IsOpen s t i j ((D.world depot.new).seen file.0)) }
+
+    ensures puts { Puts file.0 (D.world depot.old) (D.world depot.new) result }
+{
+    write(depot, file, slot, &entry.to_be_bytes())
+}
+
+/// Names a ready cluster as a second-level table, writes data into another, and names that in the table.
+pub fn write_first<D: Depot>(
+    depot: &mut D,
+    file: FileNo,
+    row: u64,
+    link: u64,
+    at: u64,
+    bytes: &[u8],
+    slot: u64,
+    entry: u64,
+) -> Result<(), Failed>
+    requires given { file.0 < (D.world depot.old).given }
+    requires row_end { row + 8 ≤ 2 ^ 62 }
+    requires end { slot + 8 ≤ 2 ^ 62 }
+    requires data_end { at + length bytes.now ≤ 2 ^ 62 }
+
+    ensures moves { (s : Shape) (disks : List (List ℕ)) (first last t k i j : ℕ) → IsFirstPut s first last t k i j row link at (length bytes.now) slot entry file.0 (D.world depot.old) →
+        Moves file.0 (IsSafe s ((D.world depot.new).seen file.0 ∷ disks)) (Stands s disks first last file.0) (Stands s ((D.world depot.new).seen file.0 ∷ disks) (k + 1) last file.0) (D.world depot.old) (D.world depot.new) }
+
+    ensures shows { OnOk result ((s : Shape) (disks : List (List ℕ)) (first last t k i j : ℕ) → IsFirstPut s first last t k i j row link at (length bytes.now) slot entry file.0 (D.world depot.old) →
+        Stands s disks first last file.0 (D.world depot.old) → IsTrue (D.world depot.old).tells → Shows s i j k at bytes.now (λ u. 0) ((D.world depot.new).seen file.0)) }
+
+    ensures puts { Puts file.0 (D.world depot.old) (D.world depot.new) result }
+{
+    add_table(depot, file, row, link)?;
+    write_hole(depot, file, at, bytes, slot, entry)
+}

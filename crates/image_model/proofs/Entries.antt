@@ -1,0 +1,334 @@
+-- Calls on a guest's cluster.
+use Rattle.std.proofs.Common.{◌≡◌, ◌≢◌, ℕ, ◌+◌, ◌*◌, ◌<◌, ◌≤◌, IsTrue, List, ◌∷◌, length, sym, ◌∙◌, ap, subst, arith, ◌⊎◌, ⊎_elim, inl, inr, ◌/◌}
+use Rattle.std.specs.Int.{from_be_bytes, w64}
+use Rattle.disk_model.specs.Files.{byte, u64_at, overlay, IsTorn, AgreesAt}
+use Rattle.image_model.specs.Clusters.{Block, word_of, ShowsAs}
+use Rattle.image_model.specs.Calls.{SameGuest, SameBut, IsPartly}
+use Rattle.image_model.proofs.Naming.{quiet_entry, quiet_alike, other_word, entry_some}
+use Rattle.disk_model.specs.World.{World, IsSound, Writes, HasWritten, EachSince, Leads}
+use Rattle.disk_model.proofs.Laws.{lead_on, lead_more, lead_from, run_on, one_sector_write}
+use Rattle.image_model.specs.Clusters.{Shape, size, per, place, stored, Table, Guest, IsBlock, IsTable, Use, Ready, Of, IsBlank, IsShape, IsZero, host, guest, IsGood, IsSafe, IsLink, IsFilled, IsTaking, Standing}
+use Rattle.image_model.specs.Calls.{IsSlot, IsOpen, IsIn, IsOnly, IsSame, IsPut, IsTablePut, IsData, Keeps, Shows}
+use Rattle.image_model.proofs.Places.{Spares, within, spared_cluster, torn_spares, spares_more, sector_at}
+use Rattle.image_model.proofs.Steps.{taken_of}
+use Rattle.image_model.proofs.Good.{more_safe, more_good, take, data_within, fresh_table, fresh_host, linked_host, word_is, row_spared, row_set, entry_inside}
+use Rattle.image_model.proofs.Calls.{fresh_leads, in_place_leads, link_leads, hole_leads, row_leads}
+use Rattle.image_model.proofs.Standing.{put, taking, Places, AreLinked, places, is_ready, taken_places, taken_linked, still_linked, holds_of, leads_stand}
+use Rattle.image_model.proofs.Kept as kept
+use Rattle.image_model.proofs.Kept.{guest_some}
+use Rattle.image_model.proofs.Links.{keeps_on, keeps_by, keeps_row}
+use Rattle.disk_model.proofs.Laws.{byte-overlay_in, byte-overlay_outside}
+use Rattle.image_model.proofs.Steps as steps
+
+-- ---- data for a hole
+
+module _ {s : Shape} {disks : List (List ℕ)} {first last k q i j at spot entry f : ℕ} {bytes : List ℕ} {a b : World} (is : IsPut s first last k q i j at (length bytes) spot entry f a) (sound : IsSound a) (sound_b : IsSound b) (call : Writes f at bytes a b)
+    (told : IsTrue a.tells) (st : Standing s disks first last f a) where
+  ready : st.role k ≡ Ready
+  ready = is_ready st k is.among (is.takeable told)
+
+  pub role_on : ℕ → Use
+  role_on = put st.role k (Of (Guest i j))
+
+  pub takes : IsTaking st.role role_on k (Guest i j)
+  unfolding role_on
+  takes = taking st.role k (Guest i j) ready
+
+  pub places_on : Places s role_on (k + 1) last
+  places_on = taken_places s st.role role_on first last k (Guest i j) (λ b e. cc) takes is.among.from is.among.to (places st)
+
+  table : st.role q ≡ Of (Table i)
+  table = st.seen.lies.refs (Table i) q (is.opened told).linked
+
+  q_not_k : q ≢ k
+  q_not_k same = let e : st.role q ≡ st.role k = ap st.role same in let r = ready in let t = table in cc
+
+  pub table_on : role_on q ≡ Of (Table i)
+  table_on = takes.others q q_not_k ∙ table
+
+  torn : IsTorn at bytes (a.seen f) (b.seen f)
+  torn = call.torn told
+
+  pub linked_b : IsTable s (b.seen f) i q
+  linked_b = fresh_table s is.shape disks k i j at bytes is.inside.low is.inside.high st.role role_on takes i q (a.seen f) (b.seen f) st.seen.lies torn (is.opened told).linked
+
+  pub none_b : host s (b.seen f) i j ≡ 0
+  none_b = fresh_host s is.shape disks k i j at bytes is.inside.low is.inside.high st.role role_on takes i j (a.seen f) (b.seen f) st.seen torn is.slot.index is.slot.slot ∙ (is.opened told).none
+
+  data_leads : Leads f (IsGood s st.role disks) (IsGood s st.role disks) (IsSafe s disks) (λ c. IsGood s role_on disks c × IsFilled s k (b.seen f) c) (λ c. IsGood s role_on disks c × IsFilled s k (b.seen f) c) a b
+  data_leads = fresh_leads s is.shape disks k i j at bytes is.inside.low is.inside.high st.role role_on takes sound sound_b call
+
+  pub role_links : (new : List ℕ) → ((x y : ℕ) → IsBlock s (a.seen f) x y → IsBlock s new x y) → AreLinked s role_on last new
+  role_links new keeps = taken_linked s st.role role_on first last k (Guest i j) (λ b e. cc) takes is.among.from is.among.to (a.seen f) new keeps st.linked
+
+  pub data_keeps_links : Keeps s (a.seen f) (b.seen f)
+  data_keeps_links =
+      keeps_by s is.shape.some st.role (a.seen f) (b.seen f) st.seen.lies Ready
+      (within s st.role Ready k (a.seen f) (b.seen f) ready (data_within s is.shape disks k i j at bytes is.inside.low is.inside.high (a.seen f) (b.seen f) torn)) (λ e. cc) (λ e. cc)
+
+  -- where the data's write failed
+  pub data_failed : EachSince b a.now f (IsSafe s (b.seen f ∷ disks)) × Standing s (b.seen f ∷ disks) (k + 1) last f b
+  data_failed = leads_stand st role_on places_on call.run told (role_links (b.seen f) data_keeps_links.blocks)
+      (lead_more (IsSafe s (b.seen f ∷ disks)) (IsGood s role_on (b.seen f ∷ disks)) (IsGood s role_on (b.seen f ∷ disks)) (λ c has. more_safe s disks (b.seen f) c has) (λ c has. more_good s role_on disks (b.seen f) c has.0) (λ c has. more_good s role_on disks (b.seen f) c has.0) data_leads)
+
+  pub data_others : IsSame s (a.seen f) (b.seen f)
+  data_others x y o x_in y_in o_in =
+      (kept.outer_shows s is.shape.some st.role (a.seen f) (b.seen f) st.seen.lies st.seen.forms Ready
+      (within s st.role Ready k (a.seen f) (b.seen f) ready (data_within s is.shape disks k i j at bytes is.inside.low is.inside.high (a.seen f) (b.seen f) torn))
+      (λ e. cc) (λ n e. cc) (λ n m e. cc) x y o x_in y_in o_in).1
+
+  pub data_alike : SameGuest s (a.seen f) (b.seen f)
+  data_alike =
+      quiet_alike s is.shape.some st.role (a.seen f) (b.seen f) st.seen.lies st.seen.forms Ready
+      (within s st.role Ready k (a.seen f) (b.seen f) ready (data_within s is.shape disks k i j at bytes is.inside.low is.inside.high (a.seen f) (b.seen f) torn)) (λ e. cc) (λ n e. cc) (λ n m e. cc)
+
+  pub data_open : IsOpen s q i j (b.seen f)
+  data_open = record { linked = linked_b; none = none_b }
+
+  -- once it is done, the entry
+  module _ {d : World} {word : List ℕ} (sound_d : IsSound d) (next : Writes f spot word b d) (eight : length word ≡ 8) (says : from_be_bytes w64 word ≡ entry) where
+    next_at : Writes f (place s q + 8 * j) word b d
+    next_at = subst (λ (p : ℕ). Writes f p word b d) is.slot.at next
+
+    link : IsLink s (from_be_bytes w64 word) k
+    link = says ∙ is.link
+
+    told_b : IsTrue b.tells
+    told_b = subst IsTrue (sym call.run.goes.tells) told
+
+    good_b : IsGood s role_on disks (b.seen f)
+    good_b = ((data_leads.after (holds_of st)).seen told_b).0
+
+    word_spares : Spares (place s q + 8 * j) 8 (b.seen f) (d.seen f)
+    word_spares = spares_more (place s q + 8 * j) (length word) (place s q + 8 * j) 8 (b.seen f) (d.seen f) (omega arith) (omega (arith, eight)) (torn_spares (place s q + 8 * j) word (b.seen f) (d.seen f) (next_at.torn told_b))
+
+    pub linked_others : IsOnly s i j (a.seen f) (d.seen f)
+    linked_others x y o x_in y_in o_in other t low high =
+        (kept.entry_shows s is.shape.some role_on (b.seen f) (d.seen f) good_b.lies good_b.forms q i j table_on is.slot.slot word_spares x y o x_in y_in o_in other).1 t low high
+        ∙ data_others x y o x_in y_in o_in t low high
+
+    pub linked_but : SameBut s i j (a.seen f) (d.seen f)
+    linked_but = record {
+      entries = λ x y x_in y_in other.
+          other_word s is.shape.some role_on (b.seen f) (d.seen f) good_b.lies good_b.forms q i j table_on is.slot.slot word_spares x y x_in y_in other ∙ data_alike.entries x y x_in y_in;
+      disk = linked_others;
+    }
+
+    linked_new : d.seen f ≡ overlay (b.seen f) (place s q + 8 * j) word → IsTable s (d.seen f) i q × (host s (d.seen f) i j ≡ place s k)
+    linked_new new = (
+      steps.entry_on s is.shape.some role_on (b.seen f) (d.seen f) good_b.lies q i j table_on is.slot.slot word_spares i q linked_b,
+      subst (λ (c : List ℕ). host s c i j ≡ place s k) (sym new) (linked_host s is.shape disks role_on q i j table_on is.slot.index is.slot.slot word eight k is.inside.some takes.taken link (b.seen f) good_b linked_b),
+    )
+
+    pub linked_done : HasWritten f spot word b d → IsTable s (d.seen f) i q × (host s (d.seen f) i j ≡ place s k)
+    linked_done done = linked_new (done.seen told_b ∙ ap (λ (p : ℕ). overlay (b.seen f) p word) is.slot.at)
+
+    pub linked_keeps_links : Keeps s (a.seen f) (d.seen f)
+    linked_keeps_links =
+        keeps_on s (a.seen f) (b.seen f) (d.seen f) data_keeps_links
+        (record { blocks = steps.entry_block_on s is.shape.some role_on (b.seen f) (d.seen f) good_b.lies q i j table_on is.slot.slot word_spares; tables = steps.entry_on s is.shape.some role_on (b.seen f) (d.seen f) good_b.lies q i j table_on is.slot.slot word_spares })
+
+    pub linked_all : EachSince d a.now f (IsSafe s (d.seen f ∷ disks)) × Standing s (d.seen f ∷ disks) (k + 1) last f d
+    linked_all = leads_stand st role_on places_on (run_on call.run next.run) told (role_links (d.seen f) linked_keeps_links.blocks)
+        (lead_on call.run next.run
+        (lead_more (IsSafe s (d.seen f ∷ disks)) (λ c. IsGood s role_on disks c × IsFilled s k (b.seen f) c) (λ c. IsGood s role_on disks c × IsFilled s k (b.seen f) c) (λ c has. more_safe s disks (d.seen f) c has) (λ c has. has) (λ c has. has) data_leads)
+        (link_leads s is.shape disks role_on q i j table_on is.slot.index is.slot.slot word eight sound_b sound_d next_at k is.inside.some takes.taken link linked_b none_b))
+
+    k_not_q : k ≢ q
+    k_not_q same = q_not_k (sym same)
+
+    shows_by : HasWritten f at bytes a b → host s (d.seen f) i j ≡ place s k → Shows s i j k at bytes (λ t. 0) (d.seen f)
+    shows_by wrote there =
+        let around = spares_more (place s q + 8 * j) 8 (place s q) (size s) (b.seen f) (d.seen f) (omega arith) (omega (arith, is.slot.slot)) word_spares in
+        let same = spared_cluster s q (b.seen f) (d.seen f) around k k_not_q in
+        let is_zero = st.seen.lies.zeros k (subst IsBlank (sym ready) tt) in
+        record {
+          inside = λ t t_in low high.
+              guest_some s (d.seen f) i j t k is.shape.some is.inside.some there ∙ same (place s k + t) (omega arith) (omega (arith, t_in))
+              ∙ ap (λ (c : List ℕ). byte c (place s k + t)) (wrote.seen told) ∙ byte-overlay_in (a.seen f) at bytes (place s k + t) low high;
+          outside = λ t t_in out.
+              guest_some s (d.seen f) i j t k is.shape.some is.inside.some there ∙ same (place s k + t) (omega arith) (omega (arith, t_in))
+              ∙ ap (λ (c : List ℕ). byte c (place s k + t)) (wrote.seen told) ∙ byte-overlay_outside (a.seen f) at bytes (place s k + t) out ∙ is_zero (place s k + t) (omega arith) (omega (arith, t_in));
+        }
+
+    pub linked_shows : HasWritten f at bytes a b → HasWritten f spot word b d → Shows s i j k at bytes (λ t. 0) (d.seen f)
+    linked_shows wrote done = shows_by wrote (linked_done done).1
+
+    -- whatever the entry's write answered: the entry is as before, or the data shows
+    pub linked_either : HasWritten f at bytes a b → IsOpen s q i j (d.seen f) ⊎ Shows s i j k at bytes (λ t. 0) (d.seen f)
+    linked_either wrote = ⊎_elim
+        (λ (same : d.seen f ≡ b.seen f). inl (subst (IsOpen s q i j) (sym same) (record { linked = linked_b; none = none_b })))
+        (λ (new : d.seen f ≡ overlay (b.seen f) (place s q + 8 * j) word). inr (shows_by wrote (linked_new new).1))
+        (one_sector_write (place s q + 8 * j) word (b.seen f) (d.seen f) ((place s q + 8 * j) / 512) (next_at.torn told_b)
+        (entry_inside s is.shape disks role_on q i j table_on is.slot.index is.slot.slot word eight (b.seen f) good_b) (omega arith) (omega (arith, eight, sector_at s q 0)))
+
+    -- and then it is the very word that it was
+    pub linked_whether : HasWritten f at bytes a b → (word_of s (d.seen f) i j ≡ word_of s (a.seen f) i j) ⊎ Shows s i j k at bytes (λ t. 0) (d.seen f)
+    linked_whether wrote = ⊎_elim
+        (λ (same : d.seen f ≡ b.seen f). inl (ap (λ (c : List ℕ). word_of s c i j) same ∙ data_alike.entries i j is.slot.index is.slot.slot))
+        (λ (new : d.seen f ≡ overlay (b.seen f) (place s q + 8 * j) word). inr (shows_by wrote (linked_new new).1))
+        (one_sector_write (place s q + 8 * j) word (b.seen f) (d.seen f) ((place s q + 8 * j) / 512) (next_at.torn told_b)
+        (entry_inside s is.shape disks role_on q i j table_on is.slot.index is.slot.slot word eight (b.seen f) good_b) (omega arith) (omega (arith, eight, sector_at s q 0)))
+
+-- ---- an entry becomes a hole
+
+module _ {s : Shape} {disks : List (List ℕ)} {first last q i j spot f : ℕ} {word : List ℕ} {a b : World} (shape : IsShape s) (slot : IsSlot s q i j spot) (sound : IsSound a) (sound_b : IsSound b) (call : Writes f spot word a b)
+    (eight : length word ≡ 8) (says : from_be_bytes w64 word ≡ 0) (told : IsTrue a.tells) (linked : IsTable s (a.seen f) i q) (st : Standing s disks first last f a) where
+  hole_at : Writes f (place s q + 8 * j) word a b
+  hole_at = subst (λ (p : ℕ). Writes f p word a b) slot.at call
+
+  hole_table : st.role q ≡ Of (Table i)
+  hole_table = st.seen.lies.refs (Table i) q linked
+
+  hole_spares : Spares (place s q + 8 * j) 8 (a.seen f) (b.seen f)
+  hole_spares = spares_more (place s q + 8 * j) (length word) (place s q + 8 * j) 8 (a.seen f) (b.seen f) (omega arith) (omega (arith, eight)) (torn_spares (place s q + 8 * j) word (a.seen f) (b.seen f) (hole_at.torn told))
+
+  pub cleared_others : IsOnly s i j (a.seen f) (b.seen f)
+  cleared_others x y o x_in y_in o_in other =
+      (kept.entry_shows s shape.some st.role (a.seen f) (b.seen f) st.seen.lies st.seen.forms q i j hole_table slot.slot hole_spares x y o x_in y_in o_in other).1
+
+  pub cleared_done : HasWritten f spot word a b → IsOpen s q i j (b.seen f)
+  cleared_done done =
+      let new : b.seen f ≡ overlay (a.seen f) (place s q + 8 * j) word = done.seen told ∙ ap (λ (p : ℕ). overlay (a.seen f) p word) slot.at in
+      record {
+        linked = steps.entry_on s shape.some st.role (a.seen f) (b.seen f) st.seen.lies q i j hole_table slot.slot hole_spares i q linked;
+        none = kept.new_host s shape.some st.role (a.seen f) (b.seen f) st.seen.lies st.seen.forms q i j hole_table slot.slot hole_spares linked
+            ∙ ap stored (ap (λ (c : List ℕ). u64_at c (place s q + 8 * j)) new ∙ word_is s shape disks st.role q i j hole_table slot.index slot.slot word eight (a.seen f) ∙ says) ∙ kept.stored_none;
+      }
+
+  pub cleared_keeps_links : Keeps s (a.seen f) (b.seen f)
+  cleared_keeps_links = record {
+    blocks = steps.entry_block_on s shape.some st.role (a.seen f) (b.seen f) st.seen.lies q i j hole_table slot.slot hole_spares;
+    tables = steps.entry_on s shape.some st.role (a.seen f) (b.seen f) st.seen.lies q i j hole_table slot.slot hole_spares;
+  }
+
+  pub cleared : EachSince b a.now f (IsSafe s (b.seen f ∷ disks)) × Standing s (b.seen f ∷ disks) first last f b
+  cleared = leads_stand st st.role (places st) call.run told (still_linked st (b.seen f) cleared_keeps_links.blocks) (hole_leads s shape disks st.role q i j hole_table slot.index slot.slot word eight sound sound_b hole_at says linked)
+
+  pub cleared_but : SameBut s i j (a.seen f) (b.seen f)
+  cleared_but = record {
+    entries = λ x y x_in y_in other. other_word s shape.some st.role (a.seen f) (b.seen f) st.seen.lies st.seen.forms q i j hole_table slot.slot hole_spares x y x_in y_in other;
+    disk = cleared_others;
+  }
+
+  pub cleared_whether : ((word_of s (b.seen f) i j ≡ word_of s (a.seen f) i j) × ((o : ℕ) → o < s.sectors → ShowsAs s i j o (b.seen f) (a.seen f))) ⊎ (word_of s (b.seen f) i j ≡ 0)
+  cleared_whether = ⊎_elim
+      (λ (same : b.seen f ≡ a.seen f). inl (ap (λ (c : List ℕ). word_of s c i j) same, λ o o_in t low high. ap (λ (c : List ℕ). guest s c i j t) same))
+      (λ (new : b.seen f ≡ overlay (a.seen f) (place s q + 8 * j) word). inr
+      (entry_some s (b.seen f) i j q shape.some (steps.entry_on s shape.some st.role (a.seen f) (b.seen f) st.seen.lies q i j hole_table slot.slot hole_spares i q linked)
+      ∙ ap (λ (c : List ℕ). u64_at c (place s q + 8 * j)) new ∙ word_is s shape disks st.role q i j hole_table slot.index slot.slot word eight (a.seen f) ∙ says))
+      (one_sector_write (place s q + 8 * j) word (a.seen f) (b.seen f) ((place s q + 8 * j) / 512) (hole_at.torn told)
+      (entry_inside s shape disks st.role q i j hole_table slot.index slot.slot word eight (a.seen f) st.seen) (omega arith) (omega (arith, eight, sector_at s q 0)))
+
+-- ---- data in place
+
+module _ {s : Shape} {disks : List (List ℕ)} {first last k i j at f : ℕ} {bytes : List ℕ} {a b : World} (shape : IsShape s) (i_in : i < s.tables) (j_in : j < per s) (inside : IsIn s k at (length bytes)) (sound : IsSound a) (sound_b : IsSound b) (call : Writes f at bytes a b)
+    (told : IsTrue a.tells) (is : IsData s i j k (a.seen f)) (st : Standing s disks first last f a) where
+  data_role : st.role k ≡ Of (Guest i j)
+  data_role = st.seen.lies.refs (Guest i j) k is.is
+
+  over_spares : Spares (place s k) (size s) (a.seen f) (b.seen f)
+  over_spares = data_within s shape disks k i j at bytes inside.low inside.high (a.seen f) (b.seen f) (call.torn told)
+
+  pub over_others : IsOnly s i j (a.seen f) (b.seen f)
+  over_others x y o x_in y_in o_in other =
+      kept.other_shows s shape.some st.role (a.seen f) (b.seen f) st.seen.lies st.seen.forms k i j data_role over_spares x y o x_in y_in o_in
+      (λ here. not_here x y (sym (st.seen.lies.refs (Guest x y) k here) ∙ data_role) other)
+    where
+      first_of : (x y : ℕ) → Of (Guest x y) ≡ Of (Guest i j) → x ≡ i
+      first_of x y e = cc
+
+      second_of : (x y : ℕ) → Of (Guest x y) ≡ Of (Guest i j) → y ≡ j
+      second_of x y e = cc
+
+      not_here : (x y : ℕ) → Of (Guest x y) ≡ Of (Guest i j) → (x ≡ i → y ≡ j → ⊥) → ⊥
+      not_here x y e other = other (first_of x y e) (second_of x y e)
+
+  pub over_host : host s (b.seen f) i j ≡ place s k
+  over_host = kept.guest_host s shape.some st.role (a.seen f) (b.seen f) st.seen.lies st.seen.forms k i j data_role over_spares i j i_in j_in ∙ is.at
+
+  pub over_keeps_links : Keeps s (a.seen f) (b.seen f)
+  over_keeps_links =
+      keeps_by s shape.some st.role (a.seen f) (b.seen f) st.seen.lies (Of (Guest i j)) (within s st.role (Of (Guest i j)) k (a.seen f) (b.seen f) data_role over_spares) (λ e. cc) (λ e. cc)
+
+  pub overwritten : EachSince b a.now f (IsSafe s (b.seen f ∷ disks)) × Standing s (b.seen f ∷ disks) first last f b
+  overwritten = leads_stand st st.role (places st) call.run told (still_linked st (b.seen f) over_keeps_links.blocks) (in_place_leads s shape disks k i j at bytes inside.low inside.high st.role data_role sound sound_b call i_in j_in is.at)
+
+  pub over_shows : HasWritten f at bytes a b → Shows s i j k at bytes (guest s (a.seen f) i j) (b.seen f)
+  over_shows wrote = record {
+    inside = λ t t_in low high.
+        guest_some s (b.seen f) i j t k shape.some inside.some over_host ∙ ap (λ (c : List ℕ). byte c (place s k + t)) (wrote.seen told) ∙ byte-overlay_in (a.seen f) at bytes (place s k + t) low high;
+    outside = λ t t_in out.
+        guest_some s (b.seen f) i j t k shape.some inside.some over_host ∙ ap (λ (c : List ℕ). byte c (place s k + t)) (wrote.seen told) ∙ byte-overlay_outside (a.seen f) at bytes (place s k + t) out
+        ∙ sym (guest_some s (a.seen f) i j t k shape.some inside.some is.at);
+  }
+
+  pub over_entries : (x y : ℕ) → x < s.tables → y < per s → word_of s (b.seen f) x y ≡ word_of s (a.seen f) x y
+  over_entries =
+      quiet_entry s shape.some st.role (a.seen f) (b.seen f) st.seen.lies st.seen.forms (Of (Guest i j)) (within s st.role (Of (Guest i j)) k (a.seen f) (b.seen f) data_role over_spares) (λ e. cc) (λ n e. cc)
+
+  over_not : (u : Use) (n : ℕ) → u ≡ Of (Guest i j) → u ≡ Of (Block n) → ⊥
+  over_not u n x y = cc
+
+  over_long : place s k + size s ≤ length (a.seen f)
+  over_long = (st.seen.lies.used k (taken_of st.role k (Guest i j) data_role) (λ n e. absurd (over_not (st.role k) n data_role e))).inside
+
+  pub over_partly : IsPartly s i j k at bytes (a.seen f) (b.seen f)
+  over_partly o o_in = ⊎_elim
+      (λ (as_old : AgreesAt (s.sectors * k + o) (b.seen f) (a.seen f)). inl (λ t low high.
+      guest_some s (b.seen f) i j t k shape.some inside.some over_host
+      ∙ as_old (place s k + t) (omega (arith, sector_at s k o)) (omega (arith, sector_at s k o)) (omega (arith, over_long, over_spares.longer, o_in))
+      ∙ sym (guest_some s (a.seen f) i j t k shape.some inside.some is.at)))
+      (λ (as_new : AgreesAt (s.sectors * k + o) (b.seen f) (overlay (a.seen f) at bytes)). inr (λ t low high.
+      guest_some s (b.seen f) i j t k shape.some inside.some over_host
+      ∙ as_new (place s k + t) (omega (arith, sector_at s k o)) (omega (arith, sector_at s k o)) (omega (arith, over_long, over_spares.longer, o_in))))
+      ((call.torn told).sectors (s.sectors * k + o))
+
+-- ---- a second-level table
+
+module _ {s : Shape} {disks : List (List ℕ)} {first last t i spot entry f : ℕ} {word : List ℕ} {a b : World} (is : IsTablePut s first last t i spot entry f a) (sound : IsSound a) (sound_b : IsSound b) (call : Writes f spot word a b)
+    (eight : length word ≡ 8) (says : from_be_bytes w64 word ≡ entry) (told : IsTrue a.tells) (st : Standing s disks first last f a) where
+  row_at : Writes f (s.l1 + 8 * i) word a b
+  row_at = subst (λ (p : ℕ). Writes f p word a b) is.at call
+
+  row_ready : st.role t ≡ Ready
+  row_ready = is_ready st t is.among (is.takeable told)
+
+  row_role : ℕ → Use
+  row_role = put st.role t (Of (Table i))
+
+  row_takes : IsTaking st.role row_role t (Table i)
+  unfolding row_role
+  row_takes = taking st.role t (Table i) row_ready
+
+  row_link : IsLink s (from_be_bytes w64 word) t
+  row_link = says ∙ is.link
+
+  row_has : (c : List ℕ) → IsGood s st.role disks c → IsGood s row_role disks c × IsZero s c t
+  row_has c good = (
+    record { lies = take s st.role row_role t (Table i) c tt row_takes good.lies; forms = good.forms; kept = good.kept },
+    good.lies.zeros t (subst IsBlank (sym row_ready) tt),
+  )
+
+  table_row_spares : Spares (s.l1 + 8 * i) 8 (a.seen f) (b.seen f)
+  table_row_spares = spares_more (s.l1 + 8 * i) (length word) (s.l1 + 8 * i) 8 (a.seen f) (b.seen f) (omega arith) (omega (arith, eight)) (torn_spares (s.l1 + 8 * i) word (a.seen f) (b.seen f) (row_at.torn told))
+
+  pub table_keeps_links : Keeps s (a.seen f) (b.seen f)
+  table_keeps_links = keeps_row s is.shape.some st.role (a.seen f) (b.seen f) i is.index st.seen.lies (is.none told) table_row_spares
+
+  pub table_added : EachSince b a.now f (IsSafe s disks) × Standing s disks (t + 1) last f b
+  table_added = leads_stand st row_role (taken_places s st.role row_role first last t (Table i) (λ n e. cc) row_takes is.among.from is.among.to (places st)) call.run told
+      (taken_linked s st.role row_role first last t (Table i) (λ n e. cc) row_takes is.among.from is.among.to (a.seen f) (b.seen f) table_keeps_links.blocks st.linked)
+      (lead_from (IsGood s st.role disks) (IsGood s st.role disks) row_has row_has
+      (row_leads s is.shape disks row_role t i is.some is.index row_takes.taken word eight row_link sound sound_b row_at (is.none told)))
+
+  pub table_done : HasWritten f spot word a b → (j : ℕ) → j < per s → IsOpen s t i j (b.seen f)
+  table_done done j j_in =
+      let new : b.seen f ≡ overlay (a.seen f) (s.l1 + 8 * i) word = done.seen told ∙ ap (λ (p : ℕ). overlay (a.seen f) p word) is.at in
+      let has = row_has (a.seen f) st.seen in
+      let spares = row_spared s is.shape disks row_role t i is.some is.index row_takes.taken word eight row_link (a.seen f) in
+      let set = row_set s is.shape disks row_role t i is.some is.index row_takes.taken word eight row_link (a.seen f) has.0 in
+      subst (λ (c : List ℕ). IsOpen s t i j c) (sym new) (record {
+        linked = record { inside = is.index; some = is.some; at = set };
+        none = kept.host_in s is.shape.some row_role (a.seen f) (overlay (a.seen f) (s.l1 + 8 * i) word) has.0.lies has.0.forms t i is.index is.some row_takes.taken has.1 spares set j j_in;
+      })

@@ -1,0 +1,43 @@
+-- What reads give after a call on a guest's cluster.
+use Rattle.std.proofs.Common.{◌≡◌, ◌≢◌, inl, inr, ℕ, ◌+◌, ◌*◌, ◌<◌, IsTrue, List, ◌∙◌, ap, subst, arith}
+use Rattle.std.proofs.lemmas.Bool.{cases_eq, cases_lt}
+use Rattle.disk_model.specs.Files.{u64_at}
+use Rattle.disk_model.specs.World.{World, Parts, Runs}
+use Rattle.image_model.specs.Clusters.{Shape, per, offset, Counts, Tables, Use, Of, Lies}
+use Rattle.image_model.specs.Calls.{IsOpen, IsPut, IsFirstPut, IsTakeable, Keeps}
+use Rattle.image_model.proofs.Places.{Spares, Elsewhere, in_row, word_spared, place_some}
+use Rattle.image_model.proofs.Frame as frame
+
+pub keeps_on : (s : Shape) (a b c : List ℕ) → Keeps s a b → Keeps s b c → Keeps s a c
+keeps_on s a b c first second = record { blocks = λ i q is. second.blocks i q (first.blocks i q is); tables = λ i q is. second.tables i q (first.tables i q is) }
+
+pub keeps_takeable : (s : Shape) (a b : List ℕ) (k : ℕ) → Keeps s a b → IsTakeable s k a → IsTakeable s k b
+keeps_takeable s a b k keeps t = record { index = t.index; counts = t.counts; block = t.block; linked = keeps.blocks t.index t.block t.linked; differ = t.differ }
+
+-- a change in clusters of another role than tables'
+module _ (s : Shape) (some : 0 < s.sectors) (role : ℕ → Use) (old new : List ℕ) (lies : Lies s role old) (u : Use) (elsewhere : Elsewhere s role u old new) where
+  pub keeps_by : u ≢ Of Counts → u ≢ Of Tables → Keeps s old new
+  keeps_by no_counts no_tables = record { blocks = frame.block_on s some role old new lies u elsewhere no_counts; tables = frame.table_on s some role old new lies u elsewhere no_tables }
+
+-- a word of the first level, where there was none
+pub keeps_row : (s : Shape) (some : 0 < s.sectors) (role : ℕ → Use) (old new : List ℕ) (i0 : ℕ) → i0 < s.tables → Lies s role old → offset (u64_at old (s.l1 + 8 * i0)) ≡ 0 → Spares (s.l1 + 8 * i0) 8 old new → Keeps s old new
+keeps_row s some role old new i0 inside lies none spares = record {
+  blocks = frame.block_on s some role old new lies (Of Tables) (in_row s role Tables s.l1 s.tables i0 old new inside (λ k m. lies.refs Tables k m) spares) (λ e. cc);
+  tables = λ i q is. elim (cases_eq i i0) [
+    | inl same ↦ absurd (omega (arith, is.at, none, ap (λ (x : ℕ). offset (u64_at old (s.l1 + 8 * x))) same, place_some s q some is.some))
+    | inr differ ↦ record { inside = is.inside; some = is.some; at = ap offset (word_spared (s.l1 + 8 * i0) 8 old new (s.l1 + 8 * i) spares (elim (cases_lt i i0) [ inl below ↦ inl (omega arith) | inr above ↦ inr (omega (arith, above, differ)) ])) ∙ is.at }
+  ];
+}
+
+-- data for a table that was just linked
+pub second_put : {parts : Parts} {s : Shape} {first last t k i j row link at long spot entry f : ℕ} {a m : World} → Runs parts a m → IsFirstPut s first last t k i j row link at long spot entry f a
+    → (IsTrue a.tells → (n : ℕ) → n < per s → IsOpen s t i n (m.seen f)) → (IsTrue a.tells → Keeps s (a.seen f) (m.seen f)) → IsPut s (t + 1) last k t i j at long spot entry f m
+second_put {parts} {s} {first} {last} {t} {k} {i} {j} {row} {link} {at} {long} {spot} {entry} {f} {a} {m} run is linked keeps = record {
+  shape = is.table.shape;
+  slot = is.slot;
+  inside = is.inside;
+  among = is.among;
+  link = is.link_is;
+  opened = λ told. linked (subst IsTrue run.goes.tells told) j is.slot.slot;
+  takeable = λ told. let was = subst IsTrue run.goes.tells told in keeps_takeable s (a.seen f) (m.seen f) k (keeps was) (is.takeable was);
+}
