@@ -7,8 +7,8 @@ use Rattle.disk_model.proofs.Laws.{run_on}
 use Rattle.file_device.proofs.Laws.{puts_err, puts_on}
 use Rattle.image_model.specs.Clusters.{Shape, IsSafe, Stands}
 use Rattle.image_model.specs.Calls.{IsAddingBlock}
-use Rattle.image_model.proofs.Standing.{moves_of}
-use Rattle.image_model.proofs.Pools.{block_grown, block_counted, block_synced, block_wrote, block_failed, block_done, block_there, block_keeps_links, by_answer, by_error}
+use Rattle.image_steps.proofs.Standing.{moves_of}
+use Rattle.image_steps.proofs.Pools.{block_grown, block_counted, block_synced, block_wrote, block_failed, block_done, block_there, block_keeps_links, by_answer, by_error}
 use Rattle.image_calls.proofs.counts.add_block.Goals as goal
 
 pub returns-in_err-write-clause-moves : goal.returns-in_err-write-clause-moves

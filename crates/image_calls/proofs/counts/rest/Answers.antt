@@ -3,8 +3,8 @@ use Rattle.std.proofs.lemmas.Result.{on_ok_weaker}
 use Rattle.disk_model.specs.World.{HasSynced}
 use Rattle.image_model.specs.Clusters.{Shape, IsSafe}
 use Rattle.image_model.specs.Calls.{Told, AreExactly}
-use Rattle.image_model.proofs.Standing.{moves_of}
-use Rattle.image_model.proofs.Pools.{synced_stands, synced_one, synced_rests, rests_from}
+use Rattle.image_steps.proofs.Standing.{moves_of}
+use Rattle.image_steps.proofs.Pools.{synced_stands, synced_one, synced_rests, rests_from}
 use Rattle.image_calls.proofs.counts.rest.Goals as goal
 
 pub returns-clause-stays : goal.returns-clause-stays

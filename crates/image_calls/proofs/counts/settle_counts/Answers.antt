@@ -1,5 +1,5 @@
 use Rattle.image_model.specs.Clusters.{IsSafe}
-use Rattle.image_model.proofs.Pools.{settled, rests_of}
+use Rattle.image_steps.proofs.Pools.{settled, rests_of}
 use Rattle.image_calls.proofs.counts.settle_counts.Goals as goal
 
 pub returns-clause-moves : goal.returns-clause-moves

@@ -4,8 +4,8 @@ use Rattle.disk_model.proofs.Laws.{run_on}
 use Rattle.file_device.proofs.Laws.{puts_err, puts_on}
 use Rattle.image_model.specs.Clusters.{IsSafe, Stands}
 use Rattle.image_model.specs.Calls.{Keeps, SameGuest}
-use Rattle.image_model.proofs.Standing.{moves_of}
-use Rattle.image_model.proofs.Pools.{top_growth, top_counts, top_sync, top_done, top_growth_keeps, top_counts_keep, top_growth_alike, top_counts_alike, by_answer, by_error}
+use Rattle.image_steps.proofs.Standing.{moves_of}
+use Rattle.image_steps.proofs.Pools.{top_growth, top_counts, top_sync, top_done, top_growth_keeps, top_counts_keep, top_growth_alike, top_counts_alike, by_answer, by_error}
 use Rattle.image_calls.proofs.counts.top_up.Goals as goal
 
 pub returns-in_err-write-clause-moves : goal.returns-in_err-write-clause-moves

@@ -5,8 +5,8 @@ use Rattle.std.proofs.lemmas.Nat.{from_be_bytes-to_be_bytes_8}
 use Rattle.disk_model.specs.World.{HasWritten}
 use Rattle.image_model.specs.Clusters.{Shape, IsSafe, Stands}
 use Rattle.image_model.specs.Calls.{IsTablePut}
-use Rattle.image_model.proofs.Standing.{moves_of}
-use Rattle.image_model.proofs.Entries.{table_added, table_done, table_keeps_links}
+use Rattle.image_steps.proofs.Standing.{moves_of}
+use Rattle.image_steps.proofs.Entries.{table_added, table_done, table_keeps_links}
 use Rattle.image_calls.proofs.entries.add_table.Goals as goal
 
 pub returns-clause-moves : goal.returns-clause-moves

@@ -4,8 +4,8 @@ use Rattle.std.proofs.lemmas.Result.{on_ok_weaker}
 use Rattle.disk_model.specs.World.{HasWritten}
 use Rattle.image_model.specs.Clusters.{Shape, IsShape, IsTable, IsSafe, Stands}
 use Rattle.image_model.specs.Calls.{IsSlot, Told}
-use Rattle.image_model.proofs.Standing.{moves_of}
-use Rattle.image_model.proofs.Entries.{cleared, cleared_others, cleared_done, cleared_keeps_links, cleared_but, cleared_whether}
+use Rattle.image_steps.proofs.Standing.{moves_of}
+use Rattle.image_steps.proofs.Entries.{cleared, cleared_others, cleared_done, cleared_keeps_links, cleared_but, cleared_whether}
 use Rattle.image_calls.proofs.entries.clear_entry.Goals as goal
 
 pub returns-clause-moves : goal.returns-clause-moves

@@ -3,8 +3,8 @@ use Rattle.std.proofs.lemmas.Result.{on_ok_weaker}
 use Rattle.disk_model.specs.World.{HasWritten}
 use Rattle.image_model.specs.Clusters.{Shape, per, IsShape, IsSafe, Stands}
 use Rattle.image_model.specs.Calls.{Told, IsIn, IsData}
-use Rattle.image_model.proofs.Standing.{moves_of}
-use Rattle.image_model.proofs.Entries.{overwritten, over_others, over_host, over_keeps_links, over_shows, over_entries, over_partly}
+use Rattle.image_steps.proofs.Standing.{moves_of}
+use Rattle.image_steps.proofs.Entries.{overwritten, over_others, over_host, over_keeps_links, over_shows, over_entries, over_partly}
 use Rattle.image_calls.proofs.entries.overwrite.Goals as goal
 
 pub returns-clause-moves : goal.returns-clause-moves

@@ -3,9 +3,9 @@ use Rattle.std.proofs.lemmas.Result.{on_ok_weaker}
 use Rattle.file_device.proofs.Laws.{puts_on}
 use Rattle.image_model.specs.Clusters.{Shape, Stands}
 use Rattle.image_model.specs.Calls.{IsPut, IsFirstPut, Shows}
-use Rattle.image_model.proofs.Good.{more_safe}
-use Rattle.image_model.proofs.Standing.{moves_on, moves_more, stands_less}
-use Rattle.image_model.proofs.Links.{second_put}
+use Rattle.image_steps.proofs.Good.{more_safe}
+use Rattle.image_steps.proofs.Standing.{moves_on, moves_more, stands_less}
+use Rattle.image_steps.proofs.Links.{second_put}
 use Rattle.image_calls.proofs.entries.write_first.Goals as goal
 
 pub returns-in_err-add_table-clause-moves : goal.returns-in_err-add_table-clause-moves

@@ -7,8 +7,8 @@ use Rattle.disk_model.proofs.Laws.{run_on}
 use Rattle.file_device.proofs.Laws.{puts_on}
 use Rattle.image_model.specs.Clusters.{Shape, IsSafe, Stands}
 use Rattle.image_model.specs.Calls.{IsPut}
-use Rattle.image_model.proofs.Standing.{moves_of}
-use Rattle.image_model.proofs.Entries.{data_failed, data_others, linked_all, linked_others, linked_done, data_keeps_links, linked_keeps_links, linked_shows, data_open, linked_either, data_alike, linked_but, linked_whether}
+use Rattle.image_steps.proofs.Standing.{moves_of}
+use Rattle.image_steps.proofs.Entries.{data_failed, data_others, linked_all, linked_others, linked_done, data_keeps_links, linked_keeps_links, linked_shows, data_open, linked_either, data_alike, linked_but, linked_whether}
 use Rattle.image_calls.proofs.entries.write_hole.Goals as goal
 
 pub returns-in_err-write-clause-moves : goal.returns-in_err-write-clause-moves

@@ -4,7 +4,7 @@ use Rattle.disk_model.specs.World.{HasSynced}
 use Rattle.disk_model.proofs.Laws.{synced_exact}
 use Rattle.image_model.specs.Clusters.{Shape, place}
 use Rattle.image_model.specs.Calls.{Told, IsOpened}
-use Rattle.image_model.proofs.Starting.{begins_here, begun_stands}
+use Rattle.image_steps.proofs.Starting.{begins_here, begun_stands}
 use Rattle.image_calls.proofs.opening.begin.Goals as goal
 
 pub returns-clause-begins : goal.returns-clause-begins

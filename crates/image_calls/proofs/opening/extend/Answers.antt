@@ -4,7 +4,7 @@ use Rattle.disk_model.specs.World.{HasSynced}
 use Rattle.disk_model.proofs.Laws.{run_on}
 use Rattle.file_device.proofs.Laws.{puts_on}
 use Rattle.image_model.specs.Clusters.{Shape, place, IsSafe}
-use Rattle.image_model.proofs.Starting.{grown, grown_synced, grown_stands, begin_moves, begin_stands}
+use Rattle.image_steps.proofs.Starting.{grown, grown_synced, grown_stands, begin_moves, begin_stands}
 use Rattle.image_calls.proofs.opening.extend.Goals as goal
 
 pub returns-in_err-write-clause-begins : goal.returns-in_err-write-clause-begins

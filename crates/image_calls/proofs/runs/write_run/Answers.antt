@@ -5,8 +5,8 @@ use Rattle.disk_model.proofs.Laws.{run_on}
 use Rattle.file_device.proofs.Laws.{puts_on}
 use Rattle.image_model.specs.Clusters.{Shape, IsSafe, Stands}
 use Rattle.image_model.specs.Runs.{IsRunPut}
-use Rattle.image_model.proofs.Standing.{moves_of}
-use Rattle.image_model.proofs.RunCalls.{run_data_failed, run_all, run_data_others, run_others, run_data_keeps, run_keeps, run_data_open, run_either, run_done, run_shows}
+use Rattle.image_steps.proofs.Standing.{moves_of}
+use Rattle.image_steps.proofs.RunCalls.{run_data_failed, run_all, run_data_others, run_others, run_data_keeps, run_keeps, run_data_open, run_either, run_done, run_shows}
 use Rattle.image_calls.proofs.runs.write_run.Goals as goal
 
 pub returns-in_err-write-clause-moves : goal.returns-in_err-write-clause-moves

@@ -3,7 +3,7 @@ use Rattle.std.proofs.lemmas.Result.{on_ok_weaker}
 use Rattle.disk_model.specs.World.{HasSynced}
 use Rattle.image_model.specs.Clusters.{Shape}
 use Rattle.image_model.specs.Turns.{Turning}
-use Rattle.image_model.proofs.Turns.{turn_rests, turn_stays}
+use Rattle.image_steps.proofs.Turns.{turn_rests, turn_stays}
 use Rattle.image_calls.proofs.turns.after_turn.Goals as goal
 
 pub returns-clause-stays : goal.returns-clause-stays

@@ -5,7 +5,7 @@ use Rattle.first_sector.specs.Sectors.{New}
 use Rattle.image_model.specs.Clusters.{Shape}
 use Rattle.image_model.specs.Calls.{Told}
 use Rattle.image_model.specs.Turns.{Turns}
-use Rattle.image_model.proofs.Turns.{turns_crash, turns_seen, turns_move, turned_move, turned_stands}
+use Rattle.image_steps.proofs.Turns.{turns_crash, turns_seen, turns_move, turned_move, turned_stands}
 use Rattle.image_calls.proofs.FirstSectors.{sector_crash, sector_seen, sector_done}
 use Rattle.image_calls.proofs.turns.turn.Goals as goal
 

@@ -9,11 +9,11 @@ use Rattle.qc_layout.specs.Header.{fields_of}
 use Rattle.qc_layout.specs.Disks.{bits_of, words_in, counts_in}
 use Rattle.image_model.specs.Clusters.{Shape, size, per, place, Who, Head, Counts, Block, Tables, Table, Guest, Bitmaps, Held, IsBlock, IsTable, IsGuest, Refers, IsCounted, Use, Free, Fresh, Spare, Ready, Of, IsTaken, IsBlank, IsFixed, IsFixedFor, SameIn, IsZero, IsUsed, IsShape, IsPlace, IsOffset, Lies, Forms, IsTableWord, IsGuestWord, IsKept, IsGood, IsSafe, IsHeld, IsOwn, IsOwnCount, Standing, Stands, Moves}
 use Rattle.image_model.specs.Turns.{SameNumbers, SameHead, IsLoose, IsTurn, Stood, rebased, IsTurned, Turns, Wavering, Turning, IsEither}
-use Rattle.image_model.proofs.Places.{Spares, Elsewhere, within, spares_more, torn_spares, place_zero}
-use Rattle.image_model.proofs.Steps.{taken_of, same_count, guest_back}
-use Rattle.image_model.proofs.Good.{safe, is_shown}
-use Rattle.image_model.proofs.Frame as frame
-use Rattle.image_model.proofs.Kept as kept
+use Rattle.image_steps.proofs.Places.{Spares, Elsewhere, within, spares_more, torn_spares, place_zero}
+use Rattle.image_steps.proofs.Steps.{taken_of, same_count, guest_back}
+use Rattle.image_steps.proofs.Good.{safe, is_shown}
+use Rattle.image_steps.proofs.Frame as frame
+use Rattle.image_steps.proofs.Kept as kept
 
 -- ---- headers
 

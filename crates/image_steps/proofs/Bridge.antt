@@ -19,9 +19,9 @@ use Rattle.qc_layout.specs.Room.{TablesPass, IsInOrder, IsFreeFrom}
 use Rattle.qc_layout.proofs.Starts.{alike_fields, header_from_start}
 use Rattle.image_model.specs.Clusters.{Shape, size, per, each, place, offset, Who, Head, Counts, Block, Tables, Table, Guest, Bitmaps, IsTable, Refers, IsCounted, AllCounted, IsOffset, IsPlace, Forms, IsShape, SameIn, IsSafe}
 use Rattle.image_model.specs.Calls.{IsOpened}
-use Rattle.image_model.proofs.Places.{place_zero, place_some, place_step}
-use Rattle.image_model.proofs.Standing.{same_index}
-use Rattle.image_model.proofs.Words.{IsPlain1, IsPlain2, offset_same, l1_plain, l1_at, l1_some, l1_says, l2_plain, l2_order, l2_host, l2_back, place_is, words_are, counts_are, whole, parts, table_plain, plain_table, guest_plain, plain_guest}
+use Rattle.image_steps.proofs.Places.{place_zero, place_some, place_step}
+use Rattle.image_steps.proofs.Standing.{same_index}
+use Rattle.image_steps.proofs.Words.{IsPlain1, IsPlain2, offset_same, l1_plain, l1_at, l1_some, l1_says, l2_plain, l2_order, l2_host, l2_back, place_is, words_are, counts_are, whole, parts, table_plain, plain_table, guest_plain, plain_guest}
 
 -- the numbers of a file's own header
 pub record IsHeaded (s : Shape) (file : List ℕ) : Type 0 where

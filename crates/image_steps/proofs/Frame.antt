@@ -4,7 +4,7 @@ use Rattle.std.specs.Int.{w16, w64}
 use Rattle.disk_model.specs.Files.{u16_at, u64_at}
 use Rattle.disk_model.proofs.Laws.{number_same}
 use Rattle.image_model.specs.Clusters.{Shape, per, each, place, offset, Meets, Who, Counts, Tables, IsBlock, IsTable, Use, Of, IsZero, Lies}
-use Rattle.image_model.proofs.Places.{Elsewhere, cluster_of}
+use Rattle.image_steps.proofs.Places.{Elsewhere, cluster_of}
 
 module _ (s : Shape) (some : 0 < s.sectors) (role : ℕ → Use) (old new : List ℕ) (lies : Lies s role old) (u : Use) (elsewhere : Elsewhere s role u old new) where
   pub word_in : (q slot : ℕ) → role q ≢ u → slot < per s → u64_at new (place s q + 8 * slot) ≡ u64_at old (place s q + 8 * slot)

@@ -6,15 +6,15 @@ use Rattle.disk_model.proofs.Laws.{lead_on, lead_more, run_on, write_leads, byte
 use Rattle.image_model.specs.Clusters.{Shape, per, place, stored, Block, Table, Guest, IsBlock, IsTable, Use, Fresh, Ready, Of, IsBlank, host, IsGood, IsSafe, IsOwn, Standing}
 use Rattle.image_model.specs.Calls.{IsSame, Keeps, Shows}
 use Rattle.image_model.specs.Runs.{IsRunPut, IsOnlyRun, AreOpenIn, ShowIn}
-use Rattle.image_model.proofs.Places.{Elsewhere, spared_cluster}
-use Rattle.image_model.proofs.Good.{safe, more_safe, more_good}
-use Rattle.image_model.proofs.Calls.{mixed_now}
-use Rattle.image_model.proofs.Standing.{Places, AreLinked, is_ready, holds_of, leads_stand}
-use Rattle.image_model.proofs.Kept.{guest_some, host_some}
-use Rattle.image_model.proofs.Kept as kept
-use Rattle.image_model.proofs.Links.{keeps_on, keeps_by}
-use Rattle.image_model.proofs.Rows as rows
-use Rattle.image_model.proofs.Neighbours.{Where, In, Out, where_is, ranged, ranged_in, ranged_out, IsTakingRun, AreFilled, run_elsewhere, run_fresh, row_spares, word_out, sets, not_table, named_host, part_is, sector_either, linked_run}
+use Rattle.image_steps.proofs.Places.{Elsewhere, spared_cluster}
+use Rattle.image_steps.proofs.Good.{safe, more_safe, more_good}
+use Rattle.image_steps.proofs.Calls.{mixed_now}
+use Rattle.image_steps.proofs.Standing.{Places, AreLinked, is_ready, holds_of, leads_stand}
+use Rattle.image_steps.proofs.Kept.{guest_some, host_some}
+use Rattle.image_steps.proofs.Kept as kept
+use Rattle.image_steps.proofs.Links.{keeps_on, keeps_by}
+use Rattle.image_steps.proofs.Rows as rows
+use Rattle.image_steps.proofs.Neighbours.{Where, In, Out, where_is, ranged, ranged_in, ranged_out, IsTakingRun, AreFilled, run_elsewhere, run_fresh, row_spares, word_out, sets, not_table, named_host, part_is, sector_either, linked_run}
 
 module _ {s : Shape} {disks : List (List ℕ)} {first last k n q i j at spot f : ℕ} {bytes words : List ℕ} {a b : World} (is : IsRunPut s first last k n q i j at (length bytes) spot f words a) (sound : IsSound a) (sound_b : IsSound b) (call : Writes f at bytes a b)
     (told : IsTrue a.tells) (st : Standing s disks first last f a) where

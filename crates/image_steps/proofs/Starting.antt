@@ -5,7 +5,7 @@ use Rattle.disk_model.specs.World.{World, Parts, Runs, IsSound, Writes, HasWritt
 use Rattle.disk_model.proofs.Laws.{write_leads, sync_leads, lead_on, synced_exact, told_at, length-overlay}
 use Rattle.image_model.specs.Clusters.{Shape, place, IsGood, IsSafe, Standing, Stands, Moves, Block}
 use Rattle.image_model.specs.Calls.{IsOpened, IsReach, Beginning, Begins}
-use Rattle.image_model.proofs.Opening.{role_at, role_back, same_block, fresh_from, one_block, opened_good, opened_safe, reaches}
+use Rattle.image_steps.proofs.Opening.{role_at, role_back, same_block, fresh_from, one_block, opened_good, opened_safe, reaches}
 
 pub itself : (s : Shape) (next : ℕ) (file : List ℕ) → length file ≤ place s next → IsReach s next file file
 itself s next file end = record { is = record { longer = omega arith; bytes = λ i. refl }; end = end }

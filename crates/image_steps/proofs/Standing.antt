@@ -6,7 +6,7 @@ use Rattle.disk_model.specs.World.{World, Parts, Runs, IsSound, EachSince, Holds
 use Rattle.disk_model.proofs.Laws.{told_at, since_on}
 use Rattle.image_model.specs.Clusters.{Shape, Who, Block, Use, Fresh, Ready, Of, IsGood, IsOwn, Standing, Stands, Moves, IsTaking, IsOwnCount, IsBlock, each}
 use Rattle.image_model.specs.Calls.{IsTakeable, IsAmong}
-use Rattle.image_model.proofs.Good.{more_good}
+use Rattle.image_steps.proofs.Good.{more_good}
 
 -- ---- a role changes
 

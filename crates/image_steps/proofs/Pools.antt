@@ -7,15 +7,15 @@ use Rattle.disk_model.specs.World.{World, Parts, Runs, writes_of, IsSound, Write
 use Rattle.disk_model.proofs.Laws.{write_leads, sector_leads, sync_leads, synced_exact, lead_on, lead_from, run_on, since_on, told_at, number-overlay_same, one_sector_write}
 use Rattle.image_model.specs.Clusters.{Shape, size, each, place, Who, Block, IsBlock, Use, Free, Fresh, Ready, Of, IsTaken, IsShape, IsGood, IsSafe, IsOwn, Standing, Stands, Moves, IsOwnCount}
 use Rattle.image_model.specs.Calls.{IsToppingUp, IsAddingBlock, IsSettling, AreExactly, Keeps, Resting, Rests, last_after}
-use Rattle.image_model.proofs.Places.{Spares, Elsewhere, spares_more, place_next, torn_spares, within, place_same, place_some, sector_at}
-use Rattle.image_model.proofs.Frame as frame
-use Rattle.image_model.proofs.Links.{keeps_on, keeps_by}
-use Rattle.image_model.proofs.Good.{safe, recast, is_shown}
+use Rattle.image_steps.proofs.Places.{Spares, Elsewhere, spares_more, place_next, torn_spares, within, place_same, place_some, sector_at}
+use Rattle.image_steps.proofs.Frame as frame
+use Rattle.image_steps.proofs.Links.{keeps_on, keeps_by}
+use Rattle.image_steps.proofs.Good.{safe, recast, is_shown}
 use Rattle.image_model.specs.Calls.{SameGuest}
-use Rattle.image_model.proofs.Naming.{quiet_alike, alike_on}
-use Rattle.image_model.proofs.Calls.{count_inside}
-use Rattle.image_model.proofs.Standing.{put, put_here, put_other, Places, AreLinked, places, same_index, same_own, still_linked, holds_of, stand_on, leads_stand}
-use Rattle.image_model.proofs.Blocks.{topped_counts, topped_growth, topped_up, end_low, end_high, block_row_keeps, block_growth, block_count, IsPrepared, prepared, block_linked, own_change, settled_good, keep, kept_taken, kept_or, kept_fresh, kept_block, rested}
+use Rattle.image_steps.proofs.Naming.{quiet_alike, alike_on}
+use Rattle.image_steps.proofs.Calls.{count_inside}
+use Rattle.image_steps.proofs.Standing.{put, put_here, put_other, Places, AreLinked, places, same_index, same_own, still_linked, holds_of, stand_on, leads_stand}
+use Rattle.image_steps.proofs.Blocks.{topped_counts, topped_growth, topped_up, end_low, end_high, block_row_keeps, block_growth, block_count, IsPrepared, prepared, block_linked, own_change, settled_good, keep, kept_taken, kept_or, kept_fresh, kept_block, rested}
 
 -- a write that keeps what is good
 pub good_leads : (s : Shape) (role : ℕ → Use) (disks : List (List ℕ)) {f at : ℕ} {bytes : List ℕ} {a b : World} → IsSound a → IsSound b → Writes f at bytes a b

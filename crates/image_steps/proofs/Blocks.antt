@@ -6,11 +6,11 @@ use Rattle.disk_model.specs.Files.{byte, reading, number_at, u16_at, u64_at, ove
 use Rattle.disk_model.proofs.Laws.{whole_torn, u16_bytes, number-overlay_part, number_either, number-overlay_same, byte-overlay_in, byte-overlay_outside, length-overlay}
 use Rattle.image_model.specs.Clusters.{Shape, size, each, place, Who, Head, Bitmaps, Counts, Block, Tables, Table, Guest, IsBlock, IsCounted, Use, Free, Fresh, Spare, Ready, Of, IsTaken, IsBlank, IsFixed, IsZero, IsShape, Lies, IsOwnCount, IsGood}
 use Rattle.image_model.specs.Calls.{IsTopUp, AreOnes, IsNewBlock, IsSettling, AreNamed, Keeps}
-use Rattle.image_model.proofs.Places.{Spares, Elsewhere, torn_spares, spares_more, within, half_spared, place_apart, place_next, place_more, sector_at}
-use Rattle.image_model.proofs.Steps.{taken_of, quiet_keeps, quiet_forms, data_keeps, counted_on, quiet_counts, block_elsewhere, block_keeps, block_forms, block_on}
-use Rattle.image_model.proofs.Good.{Change, recast, torn_byte}
-use Rattle.image_model.proofs.Kept.{outer_kept}
-use Rattle.image_model.proofs.Frame as frame
+use Rattle.image_steps.proofs.Places.{Spares, Elsewhere, torn_spares, spares_more, within, half_spared, place_apart, place_next, place_more, sector_at}
+use Rattle.image_steps.proofs.Steps.{taken_of, quiet_keeps, quiet_forms, data_keeps, counted_on, quiet_counts, block_elsewhere, block_keeps, block_forms, block_on}
+use Rattle.image_steps.proofs.Good.{Change, recast, torn_byte}
+use Rattle.image_steps.proofs.Kept.{outer_kept}
+use Rattle.image_steps.proofs.Frame as frame
 
 -- ---- a write within a block, by what becomes of its counts
 

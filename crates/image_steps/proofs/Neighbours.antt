@@ -5,14 +5,14 @@ use Rattle.std.specs.Int.{w64}
 use Rattle.disk_model.specs.Files.{byte, u64_at, overlay, AgreesAt, IsTorn, SomeVersion}
 use Rattle.disk_model.proofs.Laws.{IsMixed, mixed_number, number_either, number_same, number-overlay_part}
 use Rattle.image_model.specs.Clusters.{Shape, size, per, place, offset, stored, Who, Block, Table, Guest, IsTable, Refers, Use, Free, Fresh, Spare, Ready, Of, IsTaken, IsBlank, IsFixed, SameIn, IsUsed, IsShape, Lies, Forms, IsGuestWord, host, ShowsAs, IsGood, IsFilled}
-use Rattle.image_model.proofs.Places.{Spares, Elsewhere, torn_spares, spares_more, word_spared, spared_cluster, place_more, place_next, sector_at}
-use Rattle.image_model.proofs.Steps.{taken_of, data_keeps, quiet_forms, zeros_on}
-use Rattle.image_model.proofs.Good.{Change, recast, more_good, is_shown, IsLinked, link_word}
-use Rattle.image_model.proofs.Kept as kept
-use Rattle.image_model.proofs.Kept.{host_some, both_none, shown, guest_some, guest_none}
+use Rattle.image_steps.proofs.Places.{Spares, Elsewhere, torn_spares, spares_more, word_spared, spared_cluster, place_more, place_next, sector_at}
+use Rattle.image_steps.proofs.Steps.{taken_of, data_keeps, quiet_forms, zeros_on}
+use Rattle.image_steps.proofs.Good.{Change, recast, more_good, is_shown, IsLinked, link_word}
+use Rattle.image_steps.proofs.Kept as kept
+use Rattle.image_steps.proofs.Kept.{host_some, both_none, shown, guest_some, guest_none}
 use Rattle.image_model.specs.Runs.{AreLinks, IsInSector}
-use Rattle.image_model.proofs.Rows.{IsSet}
-use Rattle.image_model.proofs.Rows as rows
+use Rattle.image_steps.proofs.Rows.{IsSet}
+use Rattle.image_steps.proofs.Rows as rows
 
 -- ---- roles of a range
 

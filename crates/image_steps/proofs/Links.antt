@@ -5,8 +5,8 @@ use Rattle.disk_model.specs.Files.{u64_at}
 use Rattle.disk_model.specs.World.{World, Parts, Runs}
 use Rattle.image_model.specs.Clusters.{Shape, per, offset, Counts, Tables, Use, Of, Lies}
 use Rattle.image_model.specs.Calls.{IsOpen, IsPut, IsFirstPut, IsTakeable, Keeps}
-use Rattle.image_model.proofs.Places.{Spares, Elsewhere, in_row, word_spared, place_some}
-use Rattle.image_model.proofs.Frame as frame
+use Rattle.image_steps.proofs.Places.{Spares, Elsewhere, in_row, word_spared, place_some}
+use Rattle.image_steps.proofs.Frame as frame
 
 pub keeps_on : (s : Shape) (a b c : List ℕ) → Keeps s a b → Keeps s b c → Keeps s a c
 keeps_on s a b c first second = record { blocks = λ i q is. second.blocks i q (first.blocks i q is); tables = λ i q is. second.tables i q (first.tables i q is) }
