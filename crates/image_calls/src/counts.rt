@@ -2,7 +2,7 @@
 
 ghost use Rattle.std.specs.Prelude.{◌≡◌, ℕ, List, [], ◌∷◌, ◌+◌, ◌*◌, ◌^◌, ◌<◌, ◌≤◌, length, Bool, OnOk, IsTrue};
 ghost use Rattle.file_device.specs.Calls.{Puts};
-ghost use Rattle.image_model.specs.Clusters.{Shape, each, place, IsShape, IsBlock, IsSafe, Stands, Moves};
+ghost use Rattle.image_model.specs.Clusters.{Shape, each, place, IsShape, IsBlock, IsSafe, IsStanding, Moves};
 ghost use Rattle.image_model.specs.Calls.{Told, IsToppingUp, IsAddingBlock, IsSettling, AreExactly, Rests, Keeps, SameGuest, last_after};
 
 use disk_model::{Depot, Failed, FileNo};
@@ -21,14 +21,14 @@ pub fn top_up<D: Depot>(
     requires counts_end { spot + length counts.now ≤ 2 ^ 62 }
 
     ensures moves { (s : Shape) (disks : List (List ℕ)) (first last q i low n : ℕ) → IsToppingUp s last q i low n spot finish file.0 counts.now (D.world depot.old) →
-        Moves file.0 (IsSafe s disks) (Stands s disks first last file.0) (Stands s disks first (last_after result last n) file.0) (D.world depot.old) (D.world depot.new) }
+        Moves file.0 (IsSafe s disks) (IsStanding s disks first last file.0) (IsStanding s disks first (last_after result last n) file.0) (D.world depot.old) (D.world depot.new) }
 
     ensures keeps { (s : Shape) (disks : List (List ℕ)) (first last q i low n : ℕ) → IsToppingUp s last q i low n spot finish file.0 counts.now (D.world depot.old) →
-        Stands s disks first last file.0 (D.world depot.old) → IsTrue (D.world depot.old).tells → Keeps s ((D.world depot.old).seen file.0) ((D.world depot.new).seen file.0) }
+        IsStanding s disks first last file.0 (D.world depot.old) → IsTrue (D.world depot.old).tells → Keeps s ((D.world depot.old).seen file.0) ((D.world depot.new).seen file.0) }
 
     // Whatever it answers, the guest's entries and its disk are the same.
     ensures alike { (s : Shape) (disks : List (List ℕ)) (first last q i low n : ℕ) → IsToppingUp s last q i low n spot finish file.0 counts.now (D.world depot.old) →
-        Stands s disks first last file.0 (D.world depot.old) → IsTrue (D.world depot.old).tells → SameGuest s ((D.world depot.old).seen file.0) ((D.world depot.new).seen file.0) }
+        IsStanding s disks first last file.0 (D.world depot.old) → IsTrue (D.world depot.old).tells → SameGuest s ((D.world depot.old).seen file.0) ((D.world depot.new).seen file.0) }
 
     ensures puts { Puts file.0 (D.world depot.old) (D.world depot.new) result }
 {
@@ -54,10 +54,10 @@ pub fn add_block<D: Depot>(
     requires word_end { at + 8 ≤ 2 ^ 62 }
 
     ensures moves { (s : Shape) (disks : List (List ℕ)) (first last i slot : ℕ) → IsAddingBlock s i last slot spot finish end at word file.0 (D.world depot.old) →
-        Moves file.0 (IsSafe s disks) (Stands s disks first last file.0) (Stands s disks first (last_after result last 1) file.0) (D.world depot.old) (D.world depot.new) }
+        Moves file.0 (IsSafe s disks) (IsStanding s disks first last file.0) (IsStanding s disks first (last_after result last 1) file.0) (D.world depot.old) (D.world depot.new) }
 
     ensures linked { OnOk result ((s : Shape) (disks : List (List ℕ)) (first last i slot : ℕ) → IsAddingBlock s i last slot spot finish end at word file.0 (D.world depot.old) →
-        Stands s disks first last file.0 (D.world depot.old) → IsTrue (D.world depot.old).tells → IsBlock s ((D.world depot.new).seen file.0) i last × Keeps s ((D.world depot.old).seen file.0) ((D.world depot.new).seen file.0)) }
+        IsStanding s disks first last file.0 (D.world depot.old) → IsTrue (D.world depot.old).tells → IsBlock s ((D.world depot.new).seen file.0) i last × Keeps s ((D.world depot.old).seen file.0) ((D.world depot.new).seen file.0)) }
 
     ensures puts { Puts file.0 (D.world depot.old) (D.world depot.new) result }
 {
@@ -75,13 +75,13 @@ pub fn rest<D: Depot>(depot: &mut D, file: FileNo) -> Result<(), Failed>
     ensures same { (D.world depot.new).seen file.0 ≡ (D.world depot.old).seen file.0 }
 
     ensures stays { (s : Shape) (disks : List (List ℕ)) (first last : ℕ) →
-        Moves file.0 (IsSafe s disks) (Stands s disks first last file.0) (Stands s disks first last file.0) (D.world depot.old) (D.world depot.new) }
+        Moves file.0 (IsSafe s disks) (IsStanding s disks first last file.0) (IsStanding s disks first last file.0) (D.world depot.old) (D.world depot.new) }
 
     ensures one { OnOk result ((s : Shape) (disks : List (List ℕ)) (first last : ℕ) →
-        Moves file.0 (IsSafe s disks) (Stands s disks first last file.0) (Stands s ((D.world depot.new).seen file.0 ∷ []) first last file.0) (D.world depot.old) (D.world depot.new)) }
+        Moves file.0 (IsSafe s disks) (IsStanding s disks first last file.0) (IsStanding s ((D.world depot.new).seen file.0 ∷ []) first last file.0) (D.world depot.old) (D.world depot.new)) }
 
     ensures rests { OnOk result ((s : Shape) (disks : List (List ℕ)) (taken : ℕ → Bool) (first last : ℕ) → Told (AreExactly s taken) file.0 (D.world depot.old) →
-        Moves file.0 (IsSafe s disks) (Stands s disks first last file.0) (Rests s ((D.world depot.new).seen file.0 ∷ []) taken last file.0) (D.world depot.old) (D.world depot.new)) }
+        Moves file.0 (IsSafe s disks) (IsStanding s disks first last file.0) (Rests s ((D.world depot.new).seen file.0 ∷ []) taken last file.0) (D.world depot.old) (D.world depot.new)) }
 
     ensures puts { Puts file.0 (D.world depot.old) (D.world depot.new) result }
 {

@@ -2,7 +2,7 @@
 
 ghost use Rattle.std.specs.Prelude.{◌≡◌, ◌⊎◌, ℕ, List, ◌∷◌, ◌+◌, ◌*◌, ◌^◌, ◌<◌, ◌≤◌, length, OnOk, IsTrue};
 ghost use Rattle.file_device.specs.Calls.{Puts};
-ghost use Rattle.image_model.specs.Clusters.{Shape, per, place, host, guest, word_of, ShowsAs, IsShape, IsTable, IsSafe, Stands, Moves};
+ghost use Rattle.image_model.specs.Clusters.{Shape, per, place, host, guest, word_of, ShowsAs, IsShape, IsTable, IsSafe, IsStanding, Moves};
 ghost use Rattle.image_model.specs.Calls.{Told, IsSlot, IsIn, IsOpen, IsOnly, IsData, IsPut, IsTablePut, IsFirstPut, Keeps, Shows, SameBut, IsPartly};
 
 use disk_model::{Depot, Failed, FileNo};
@@ -22,33 +22,33 @@ pub fn write_hole<D: Depot>(
     requires data_end { at + length bytes.now ≤ 2 ^ 62 }
 
     ensures moves { (s : Shape) (disks : List (List ℕ)) (first last k q i j : ℕ) → IsPut s first last k q i j at (length bytes.now) slot entry file.0 (D.world depot.old) →
-        Moves file.0 (IsSafe s ((D.world depot.new).seen file.0 ∷ disks)) (Stands s disks first last file.0) (Stands s ((D.world depot.new).seen file.0 ∷ disks) (k + 1) last file.0) (D.world depot.old) (D.world depot.new) }
+        Moves file.0 (IsSafe s ((D.world depot.new).seen file.0 ∷ disks)) (IsStanding s disks first last file.0) (IsStanding s ((D.world depot.new).seen file.0 ∷ disks) (k + 1) last file.0) (D.world depot.old) (D.world depot.new) }
 
     // Whatever it answers, no other cluster of the guest changes.
     ensures others { (s : Shape) (disks : List (List ℕ)) (first last k q i j : ℕ) → IsPut s first last k q i j at (length bytes.now) slot entry file.0 (D.world depot.old) →
-        Stands s disks first last file.0 (D.world depot.old) → IsTrue (D.world depot.old).tells → IsOnly s i j ((D.world depot.old).seen file.0) ((D.world depot.new).seen file.0) }
+        IsStanding s disks first last file.0 (D.world depot.old) → IsTrue (D.world depot.old).tells → IsOnly s i j ((D.world depot.old).seen file.0) ((D.world depot.new).seen file.0) }
 
     ensures keeps { (s : Shape) (disks : List (List ℕ)) (first last k q i j : ℕ) → IsPut s first last k q i j at (length bytes.now) slot entry file.0 (D.world depot.old) →
-        Stands s disks first last file.0 (D.world depot.old) → IsTrue (D.world depot.old).tells → Keeps s ((D.world depot.old).seen file.0) ((D.world depot.new).seen file.0) }
+        IsStanding s disks first last file.0 (D.world depot.old) → IsTrue (D.world depot.old).tells → Keeps s ((D.world depot.old).seen file.0) ((D.world depot.new).seen file.0) }
 
     // Whatever it answers, the entry is the hole that it was, or the data shows.
     ensures either { (s : Shape) (disks : List (List ℕ)) (first last k q i j : ℕ) → IsPut s first last k q i j at (length bytes.now) slot entry file.0 (D.world depot.old) →
-        Stands s disks first last file.0 (D.world depot.old) → IsTrue (D.world depot.old).tells → IsOpen s q i j ((D.world depot.new).seen file.0) ⊎ Shows s i j k at bytes.now (λ t. 0) ((D.world depot.new).seen file.0) }
+        IsStanding s disks first last file.0 (D.world depot.old) → IsTrue (D.world depot.old).tells → IsOpen s q i j ((D.world depot.new).seen file.0) ⊎ Shows s i j k at bytes.now (λ t. 0) ((D.world depot.new).seen file.0) }
 
     ensures linked { OnOk result ((s : Shape) (disks : List (List ℕ)) (first last k q i j : ℕ) → IsPut s first last k q i j at (length bytes.now) slot entry file.0 (D.world depot.old) →
-        Stands s disks first last file.0 (D.world depot.old) → IsTrue (D.world depot.old).tells → IsTable s ((D.world depot.new).seen file.0) i q × (host s ((D.world depot.new).seen file.0) i j ≡ place s k)) }
+        IsStanding s disks first last file.0 (D.world depot.old) → IsTrue (D.world depot.old).tells → IsTable s ((D.world depot.new).seen file.0) i q × (host s ((D.world depot.new).seen file.0) i j ≡ place s k)) }
 
     // The data is there, and zeros around it.
     ensures shows { OnOk result ((s : Shape) (disks : List (List ℕ)) (first last k q i j : ℕ) → IsPut s first last k q i j at (length bytes.now) slot entry file.0 (D.world depot.old) →
-        Stands s disks first last file.0 (D.world depot.old) → IsTrue (D.world depot.old).tells → Shows s i j k at bytes.now (λ t. 0) ((D.world depot.new).seen file.0)) }
+        IsStanding s disks first last file.0 (D.world depot.old) → IsTrue (D.world depot.old).tells → Shows s i j k at bytes.now (λ t. 0) ((D.world depot.new).seen file.0)) }
 
     // Whatever it answers, no other entry of the guest changes.
     ensures but { (s : Shape) (disks : List (List ℕ)) (first last k q i j : ℕ) → IsPut s first last k q i j at (length bytes.now) slot entry file.0 (D.world depot.old) →
-        Stands s disks first last file.0 (D.world depot.old) → IsTrue (D.world depot.old).tells → SameBut s i j ((D.world depot.old).seen file.0) ((D.world depot.new).seen file.0) }
+        IsStanding s disks first last file.0 (D.world depot.old) → IsTrue (D.world depot.old).tells → SameBut s i j ((D.world depot.old).seen file.0) ((D.world depot.new).seen file.0) }
 
     // Whatever it answers, the entry is the word that it was, or the data shows.
     ensures whether { (s : Shape) (disks : List (List ℕ)) (first last k q i j : ℕ) → IsPut s first last k q i j at (length bytes.now) slot entry file.0 (D.world depot.old) →
-        Stands s disks first last file.0 (D.world depot.old) → IsTrue (D.world depot.old).tells → (word_of s ((D.world depot.new).seen file.0) i j ≡ word_of s ((D.world depot.old).seen file.0) i j) ⊎ Shows s i j k at bytes.now (λ t. 0) ((D.world depot.new).seen file.0) }
+        IsStanding s disks first last file.0 (D.world depot.old) → IsTrue (D.world depot.old).tells → (word_of s ((D.world depot.new).seen file.0) i j ≡ word_of s ((D.world depot.old).seen file.0) i j) ⊎ Shows s i j k at bytes.now (λ t. 0) ((D.world depot.new).seen file.0) }
 
     ensures puts { Puts file.0 (D.world depot.old) (D.world depot.new) result }
 {
@@ -62,24 +62,24 @@ pub fn clear_entry<D: Depot>(depot: &mut D, file: FileNo, slot: u64) -> Result<(
     requires end { slot + 8 ≤ 2 ^ 62 }
 
     ensures moves { (s : Shape) (disks : List (List ℕ)) (first last q i j : ℕ) → IsShape s → IsSlot s q i j slot → Told (λ c. IsTable s c i q) file.0 (D.world depot.old) →
-        Moves file.0 (IsSafe s ((D.world depot.new).seen file.0 ∷ disks)) (Stands s disks first last file.0) (Stands s ((D.world depot.new).seen file.0 ∷ disks) first last file.0) (D.world depot.old) (D.world depot.new) }
+        Moves file.0 (IsSafe s ((D.world depot.new).seen file.0 ∷ disks)) (IsStanding s disks first last file.0) (IsStanding s ((D.world depot.new).seen file.0 ∷ disks) first last file.0) (D.world depot.old) (D.world depot.new) }
 
     ensures others { (s : Shape) (disks : List (List ℕ)) (first last q i j : ℕ) → IsShape s → IsSlot s q i j slot → Told (λ c. IsTable s c i q) file.0 (D.world depot.old) →
-        Stands s disks first last file.0 (D.world depot.old) → IsTrue (D.world depot.old).tells → IsOnly s i j ((D.world depot.old).seen file.0) ((D.world depot.new).seen file.0) }
+        IsStanding s disks first last file.0 (D.world depot.old) → IsTrue (D.world depot.old).tells → IsOnly s i j ((D.world depot.old).seen file.0) ((D.world depot.new).seen file.0) }
 
     ensures keeps { (s : Shape) (disks : List (List ℕ)) (first last q i j : ℕ) → IsShape s → IsSlot s q i j slot → Told (λ c. IsTable s c i q) file.0 (D.world depot.old) →
-        Stands s disks first last file.0 (D.world depot.old) → IsTrue (D.world depot.old).tells → Keeps s ((D.world depot.old).seen file.0) ((D.world depot.new).seen file.0) }
+        IsStanding s disks first last file.0 (D.world depot.old) → IsTrue (D.world depot.old).tells → Keeps s ((D.world depot.old).seen file.0) ((D.world depot.new).seen file.0) }
 
     ensures cleared { OnOk result ((s : Shape) (disks : List (List ℕ)) (first last q i j : ℕ) → IsShape s → IsSlot s q i j slot → Told (λ c. IsTable s c i q) file.0 (D.world depot.old) →
-        Stands s disks first last file.0 (D.world depot.old) → IsTrue (D.world depot.old).tells → IsOpen s q i j ((D.world depot.new).seen file.0)) }
+        IsStanding s disks first last file.0 (D.world depot.old) → IsTrue (D.world depot.old).tells → IsOpen s q i j ((D.world depot.new).seen file.0)) }
 
     // Whatever it answers, no other entry of the guest changes.
     ensures but { (s : Shape) (disks : List (List ℕ)) (first last q i j : ℕ) → IsShape s → IsSlot s q i j slot → Told (λ c. IsTable s c i q) file.0 (D.world depot.old) →
-        Stands s disks first last file.0 (D.world depot.old) → IsTrue (D.world depot.old).tells → SameBut s i j ((D.world depot.old).seen file.0) ((D.world depot.new).seen file.0) }
+        IsStanding s disks first last file.0 (D.world depot.old) → IsTrue (D.world depot.old).tells → SameBut s i j ((D.world depot.old).seen file.0) ((D.world depot.new).seen file.0) }
 
     // Whatever it answers, the entry and its bytes are as they were, or it is zero.
     ensures whether { (s : Shape) (disks : List (List ℕ)) (first last q i j : ℕ) → IsShape s → IsSlot s q i j slot → Told (λ c. IsTable s c i q) file.0 (D.world depot.old) →
-        Stands s disks first last file.0 (D.world depot.old) → IsTrue (D.world depot.old).tells → ((word_of s ((D.world depot.new).seen file.0) i j ≡ word_of s ((D.world depot.old).seen file.0) i j) × ((o : ℕ) → o < s.sectors → ShowsAs s i j o ((D.world depot.new).seen file.0) ((D.world depot.old).seen file.0))) ⊎ (word_of s ((D.world depot.new).seen file.0) i j ≡ 0) }
+        IsStanding s disks first last file.0 (D.world depot.old) → IsTrue (D.world depot.old).tells → ((word_of s ((D.world depot.new).seen file.0) i j ≡ word_of s ((D.world depot.old).seen file.0) i j) × ((o : ℕ) → o < s.sectors → ShowsAs s i j o ((D.world depot.new).seen file.0) ((D.world depot.old).seen file.0))) ⊎ (word_of s ((D.world depot.new).seen file.0) i j ≡ 0) }
 
     ensures puts { Puts file.0 (D.world depot.old) (D.world depot.new) result }
 {
@@ -93,25 +93,25 @@ pub fn overwrite<D: Depot>(depot: &mut D, file: FileNo, at: u64, bytes: &[u8]) -
     requires data_end { at + length bytes.now ≤ 2 ^ 62 }
 
     ensures moves { (s : Shape) (disks : List (List ℕ)) (first last k i j : ℕ) → IsShape s → i < s.tables → j < per s → IsIn s k at (length bytes.now) → Told (IsData s i j k) file.0 (D.world depot.old) →
-        Moves file.0 (IsSafe s ((D.world depot.new).seen file.0 ∷ disks)) (Stands s disks first last file.0) (Stands s ((D.world depot.new).seen file.0 ∷ disks) first last file.0) (D.world depot.old) (D.world depot.new) }
+        Moves file.0 (IsSafe s ((D.world depot.new).seen file.0 ∷ disks)) (IsStanding s disks first last file.0) (IsStanding s ((D.world depot.new).seen file.0 ∷ disks) first last file.0) (D.world depot.old) (D.world depot.new) }
 
     ensures others { (s : Shape) (disks : List (List ℕ)) (first last k i j : ℕ) → IsShape s → i < s.tables → j < per s → IsIn s k at (length bytes.now) → Told (IsData s i j k) file.0 (D.world depot.old) →
-        Stands s disks first last file.0 (D.world depot.old) → IsTrue (D.world depot.old).tells →
+        IsStanding s disks first last file.0 (D.world depot.old) → IsTrue (D.world depot.old).tells →
         IsOnly s i j ((D.world depot.old).seen file.0) ((D.world depot.new).seen file.0) × (host s ((D.world depot.new).seen file.0) i j ≡ place s k) }
 
     ensures keeps { (s : Shape) (disks : List (List ℕ)) (first last k i j : ℕ) → IsShape s → i < s.tables → j < per s → IsIn s k at (length bytes.now) → Told (IsData s i j k) file.0 (D.world depot.old) →
-        Stands s disks first last file.0 (D.world depot.old) → IsTrue (D.world depot.old).tells → Keeps s ((D.world depot.old).seen file.0) ((D.world depot.new).seen file.0) }
+        IsStanding s disks first last file.0 (D.world depot.old) → IsTrue (D.world depot.old).tells → Keeps s ((D.world depot.old).seen file.0) ((D.world depot.new).seen file.0) }
 
     ensures shows { OnOk result ((s : Shape) (disks : List (List ℕ)) (first last k i j : ℕ) → IsShape s → i < s.tables → j < per s → IsIn s k at (length bytes.now) → Told (IsData s i j k) file.0 (D.world depot.old) →
-        Stands s disks first last file.0 (D.world depot.old) → IsTrue (D.world depot.old).tells → Shows s i j k at bytes.now (guest s ((D.world depot.old).seen file.0) i j) ((D.world depot.new).seen file.0)) }
+        IsStanding s disks first last file.0 (D.world depot.old) → IsTrue (D.world depot.old).tells → Shows s i j k at bytes.now (guest s ((D.world depot.old).seen file.0) i j) ((D.world depot.new).seen file.0)) }
 
     // Whatever it answers, no entry of the guest changes.
     ensures entries { (s : Shape) (disks : List (List ℕ)) (first last k i j : ℕ) → IsShape s → i < s.tables → j < per s → IsIn s k at (length bytes.now) → Told (IsData s i j k) file.0 (D.world depot.old) →
-        Stands s disks first last file.0 (D.world depot.old) → IsTrue (D.world depot.old).tells → (a b : ℕ) → a < s.tables → b < per s → word_of s ((D.world depot.new).seen file.0) a b ≡ word_of s ((D.world depot.old).seen file.0) a b }
+        IsStanding s disks first last file.0 (D.world depot.old) → IsTrue (D.world depot.old).tells → (a b : ℕ) → a < s.tables → b < per s → word_of s ((D.world depot.new).seen file.0) a b ≡ word_of s ((D.world depot.old).seen file.0) a b }
 
     // Whatever it answers, each sector is as it was, or as it is to be.
     ensures partly { (s : Shape) (disks : List (List ℕ)) (first last k i j : ℕ) → IsShape s → i < s.tables → j < per s → IsIn s k at (length bytes.now) → Told (IsData s i j k) file.0 (D.world depot.old) →
-        Stands s disks first last file.0 (D.world depot.old) → IsTrue (D.world depot.old).tells → IsPartly s i j k at bytes.now ((D.world depot.old).seen file.0) ((D.world depot.new).seen file.0) }
+        IsStanding s disks first last file.0 (D.world depot.old) → IsTrue (D.world depot.old).tells → IsPartly s i j k at bytes.now ((D.world depot.old).seen file.0) ((D.world depot.new).seen file.0) }
 
     ensures puts { Puts file.0 (D.world depot.old) (D.world depot.new) result }
 {
@@ -124,13 +124,13 @@ pub fn add_table<D: Depot>(depot: &mut D, file: FileNo, slot: u64, entry: u64) -
     requires end { slot + 8 ≤ 2 ^ 62 }
 
     ensures moves { (s : Shape) (disks : List (List ℕ)) (first last t i : ℕ) → IsTablePut s first last t i slot entry file.0 (D.world depot.old) →
-        Moves file.0 (IsSafe s disks) (Stands s disks first last file.0) (Stands s disks (t + 1) last file.0) (D.world depot.old) (D.world depot.new) }
+        Moves file.0 (IsSafe s disks) (IsStanding s disks first last file.0) (IsStanding s disks (t + 1) last file.0) (D.world depot.old) (D.world depot.new) }
 
     ensures keeps { (s : Shape) (disks : List (List ℕ)) (first last t i : ℕ) → IsTablePut s first last t i slot entry file.0 (D.world depot.old) →
-        Stands s disks first last file.0 (D.world depot.old) → IsTrue (D.world depot.old).tells → Keeps s ((D.world depot.old).seen file.0) ((D.world depot.new).seen file.0) }
+        IsStanding s disks first last file.0 (D.world depot.old) → IsTrue (D.world depot.old).tells → Keeps s ((D.world depot.old).seen file.0) ((D.world depot.new).seen file.0) }
 
     ensures linked { OnOk result ((s : Shape) (disks : List (List ℕ)) (first last t i : ℕ) → IsTablePut s first last t i slot entry file.0 (D.world depot.old) →
-        Stands s disks first last file.0 (D.world depot.old) → IsTrue (D.world depot.old).tells → (j : ℕ) → j < per s → IsOpen s t i j ((D.world depot.new).seen file.0)) }
+        IsStanding s disks first last file.0 (D.world depot.old) → IsTrue (D.world depot.old).tells → (j : ℕ) → j < per s → IsOpen s t i j ((D.world depot.new).seen file.0)) }
 
     ensures puts { Puts file.0 (D.world depot.old) (D.world depot.new) result }
 {
@@ -154,10 +154,10 @@ pub fn write_first<D: Depot>(
     requires data_end { at + length bytes.now ≤ 2 ^ 62 }
 
     ensures moves { (s : Shape) (disks : List (List ℕ)) (first last t k i j : ℕ) → IsFirstPut s first last t k i j row link at (length bytes.now) slot entry file.0 (D.world depot.old) →
-        Moves file.0 (IsSafe s ((D.world depot.new).seen file.0 ∷ disks)) (Stands s disks first last file.0) (Stands s ((D.world depot.new).seen file.0 ∷ disks) (k + 1) last file.0) (D.world depot.old) (D.world depot.new) }
+        Moves file.0 (IsSafe s ((D.world depot.new).seen file.0 ∷ disks)) (IsStanding s disks first last file.0) (IsStanding s ((D.world depot.new).seen file.0 ∷ disks) (k + 1) last file.0) (D.world depot.old) (D.world depot.new) }
 
     ensures shows { OnOk result ((s : Shape) (disks : List (List ℕ)) (first last t k i j : ℕ) → IsFirstPut s first last t k i j row link at (length bytes.now) slot entry file.0 (D.world depot.old) →
-        Stands s disks first last file.0 (D.world depot.old) → IsTrue (D.world depot.old).tells → Shows s i j k at bytes.now (λ u. 0) ((D.world depot.new).seen file.0)) }
+        IsStanding s disks first last file.0 (D.world depot.old) → IsTrue (D.world depot.old).tells → Shows s i j k at bytes.now (λ u. 0) ((D.world depot.new).seen file.0)) }
 
     ensures puts { Puts file.0 (D.world depot.old) (D.world depot.new) result }
 {

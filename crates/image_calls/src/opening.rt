@@ -2,7 +2,7 @@
 
 ghost use Rattle.std.specs.Prelude.{◌≡◌, ℕ, List, [], ◌∷◌, ◌+◌, ◌*◌, ◌^◌, ◌<◌, ◌≤◌, length, OnOk, IsTrue};
 ghost use Rattle.file_device.specs.Calls.{Puts};
-ghost use Rattle.image_model.specs.Clusters.{Shape, place, IsSafe, Stands, Moves};
+ghost use Rattle.image_model.specs.Clusters.{Shape, place, IsSafe, IsStanding, Moves};
 ghost use Rattle.image_model.specs.Calls.{Told, IsOpened, Begins};
 
 use disk_model::{Depot, Failed, FileNo};
@@ -15,7 +15,7 @@ pub fn begin<D: Depot>(depot: &mut D, file: FileNo) -> Result<(), Failed>
     ensures begins { OnOk result ((s : Shape) (next : ℕ) → Told (IsOpened s next) file.0 (D.world depot.old) → Begins s next ((D.world depot.new).seen file.0) file.0 (D.world depot.new)) }
 
     ensures stands { OnOk result ((s : Shape) (next : ℕ) → Told (IsOpened s next) file.0 (D.world depot.old) → Told (λ c. place s next ≤ length c) file.0 (D.world depot.old) →
-        Stands s ((D.world depot.new).seen file.0 ∷ []) next next file.0 (D.world depot.new)) }
+        IsStanding s ((D.world depot.new).seen file.0 ∷ []) next next file.0 (D.world depot.new)) }
 
     ensures same { (D.world depot.new).seen file.0 ≡ (D.world depot.old).seen file.0 }
     ensures puts { Puts file.0 (D.world depot.old) (D.world depot.new) result }
@@ -32,7 +32,7 @@ pub fn extend<D: Depot>(depot: &mut D, file: FileNo, finish: u64) -> Result<(), 
         Moves file.0 (IsSafe s (found ∷ [])) (Begins s next found file.0) (Begins s next found file.0) (D.world depot.old) (D.world depot.new) }
 
     ensures stands { OnOk result ((s : Shape) (next : ℕ) (found : List ℕ) → finish + 1 ≡ place s next → length found ≤ finish →
-        Moves file.0 (IsSafe s (found ∷ [])) (Begins s next found file.0) (Stands s (found ∷ []) next next file.0) (D.world depot.old) (D.world depot.new)) }
+        Moves file.0 (IsSafe s (found ∷ [])) (Begins s next found file.0) (IsStanding s (found ∷ []) next next file.0) (D.world depot.old) (D.world depot.new)) }
 
     ensures puts { Puts file.0 (D.world depot.old) (D.world depot.new) result }
 {

@@ -6,7 +6,7 @@ ghost use Rattle.disk_model.specs.World.{EachSinceSync};
 ghost use Rattle.file_device.specs.Calls.{Puts};
 ghost use Rattle.file_device.specs.File.{file_of, Gives, Is};
 ghost use Rattle.first_sector.specs.Sectors.{New, OldOrNew};
-ghost use Rattle.image_model.specs.Clusters.{Shape, IsShape, Standing, Stands, Moves};
+ghost use Rattle.image_model.specs.Clusters.{Shape, IsShape, Standing, IsStanding, Moves};
 ghost use Rattle.image_model.specs.Calls.{Told};
 ghost use Rattle.image_model.specs.Turns.{Turns, Turning, IsEither};
 
@@ -22,7 +22,7 @@ pub fn turn<D: Depot>(depot: &mut D, file: FileNo, sector: &[u8; 512]) -> Result
         Moves file.0 (IsEither s t disks) (Turning s t disks first last sector.now file.0) (Turning s t disks first last sector.now file.0) (D.world depot.old) (D.world depot.new) }
 
     ensures turned { OnOk result ((s t : Shape) (disks : List (List ℕ)) (first last : ℕ) →
-        Moves file.0 (IsEither s t disks) (Turning s t disks first last sector.now file.0) (Stands t ((D.world depot.new).seen file.0 ∷ []) first last file.0) (D.world depot.old) (D.world depot.new)) }
+        Moves file.0 (IsEither s t disks) (Turning s t disks first last sector.now file.0) (IsStanding t ((D.world depot.new).seen file.0 ∷ []) first last file.0) (D.world depot.old) (D.world depot.new)) }
 
     // By what reads gave alone: of each crash since the first sync that succeeded.
     ensures crash { (s t : Shape) (disks : List (List ℕ)) (first last : ℕ) → Told (Turns s t disks first last sector.now) file.0 (D.world depot.old) →
@@ -33,7 +33,7 @@ pub fn turn<D: Depot>(depot: &mut D, file: FileNo, sector: &[u8; 512]) -> Result
         Told (Turns s t disks first last sector.now) file.0 (D.world depot.new) }
 
     ensures done { OnOk result ((s t : Shape) (disks : List (List ℕ)) (first last : ℕ) → Told (Turns s t disks first last sector.now) file.0 (D.world depot.old) →
-        Stands t ((D.world depot.new).seen file.0 ∷ []) first last file.0 (D.world depot.new) × (IsTrue (D.world depot.old).tells → IsShape t)) }
+        IsStanding t ((D.world depot.new).seen file.0 ∷ []) first last file.0 (D.world depot.new) × (IsTrue (D.world depot.old).tells → IsShape t)) }
 
     // Reads give the old sector or the new one; at Ok the new one.
     ensures seen { Gives (file_of (D.world depot.old) file.0) (λ c. 512 ≤ length c) →

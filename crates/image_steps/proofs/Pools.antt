@@ -5,7 +5,7 @@ use Rattle.std.specs.Int.{from_be_bytes, w64}
 use Rattle.disk_model.specs.Files.{u64_at, overlay, IsTorn}
 use Rattle.disk_model.specs.World.{World, Parts, Runs, writes_of, IsSound, Writes, HasWritten, Syncs, HasSynced, EachSince, Leads, Holds}
 use Rattle.disk_model.proofs.Laws.{write_leads, sector_leads, sync_leads, synced_exact, lead_on, lead_from, run_on, since_on, told_at, number-overlay_same, one_sector_write}
-use Rattle.image_model.specs.Clusters.{Shape, size, each, place, Who, Block, IsBlock, Use, Free, Fresh, Ready, Of, IsTaken, IsShape, IsGood, IsSafe, IsOwn, Standing, Stands, Moves, IsOwnCount}
+use Rattle.image_model.specs.Clusters.{Shape, size, each, place, Who, Block, IsBlock, Use, Free, Fresh, Ready, Of, IsTaken, IsShape, IsGood, IsSafe, IsOwn, Standing, IsStanding, Moves, IsOwnCount}
 use Rattle.image_model.specs.Calls.{IsToppingUp, IsAddingBlock, IsSettling, AreExactly, Keeps, Resting, Rests, last_after}
 use Rattle.image_steps.proofs.Places.{Spares, Elsewhere, spares_more, place_next, torn_spares, within, place_same, place_some, sector_at}
 use Rattle.image_steps.proofs.Frame as frame
@@ -142,6 +142,7 @@ module _ {s : Shape} {disks : List (List ℕ)} {first last q i low n spot finish
 
       role_places : Places s role_on first (last + n)
       role_places = record {
+        order = omega (arith, st.order);
         ready = λ m low_m high. elim (cases_lt m last) [
           | inr from ↦ inl (role_ready m from high)
           | inl before ↦ ⊎_elim (λ (r : st.role m ≡ Ready). inl (role_other m (inl before) ∙ r)) (λ (own : IsOwn s st.role m). inr (own.0, own.1, role_other m (inl before) ∙ own.2)) (st.ready m low_m before)
@@ -160,6 +161,7 @@ module _ {s : Shape} {disks : List (List ℕ)} {first last q i low n spot finish
             syncing.since (holds_of st),
             record {
               role = role_on;
+              order = role_places.order;
               ready = role_places.ready;
               edge = role_places.edge;
               fresh = role_places.fresh;
@@ -172,12 +174,12 @@ module _ {s : Shape} {disks : List (List ℕ)} {first last q i low n spot finish
 
 -- what the end of a call says, by what it answered
 pub by_answer : {T E : Type 0} {s : Shape} {disks : List (List ℕ)} {f : ℕ} {a b : World} (I : World → Type 0) (first last n : ℕ) (result : Result T E) (X : Type 0) → OnOk result X
-    → Moves f (IsSafe s disks) I (Stands s disks first last f) a b → (X → Moves f (IsSafe s disks) I (Stands s disks first (last + n) f) a b) → Moves f (IsSafe s disks) I (Stands s disks first (last_after result last n) f) a b
+    → Moves f (IsSafe s disks) I (IsStanding s disks first last f) a b → (X → Moves f (IsSafe s disks) I (IsStanding s disks first (last + n) f) a b) → Moves f (IsSafe s disks) I (IsStanding s disks first (last_after result last n) f) a b
 by_answer I first last n (Ok value) X done failed made = made done
 by_answer I first last n (Err error) X done failed made = failed
 
 pub by_error : {T E : Type 0} {s : Shape} {disks : List (List ℕ)} {f : ℕ} {a b : World} (I : World → Type 0) (first last n : ℕ) (result : Result T E) → IsErr result
-    → Moves f (IsSafe s disks) I (Stands s disks first last f) a b → Moves f (IsSafe s disks) I (Stands s disks first (last_after result last n) f) a b
+    → Moves f (IsSafe s disks) I (IsStanding s disks first last f) a b → Moves f (IsSafe s disks) I (IsStanding s disks first (last_after result last n) f) a b
 by_error I first last n (Ok value) error failed = cc
 by_error I first last n (Err other) error failed = failed
 
@@ -262,6 +264,7 @@ module _ {s : Shape} {disks : List (List ℕ)} {first i last slot spot finish en
 
   places_before : Places s role_block_on first last
   places_before = record {
+    order = st.order;
     ready = λ m low high. let differ : m ≢ last = (λ same. absurd (omega (arith, same, high))) in
         ⊎_elim (λ (r : st.role m ≡ Ready). inl (other m differ ∙ r)) (λ (own : IsOwn s st.role m). inr (own.0, own.1, other m differ ∙ own.2)) (st.ready m low high);
     edge = inr own_last;
@@ -275,6 +278,7 @@ module _ {s : Shape} {disks : List (List ℕ)} {first i last slot spot finish en
 
   places_after : Places s role_block_on first (last + 1)
   places_after = record {
+    order = omega (arith, st.order);
     ready = λ m low high. elim (cases_eq m last) [
       | inl same ↦ inr (subst (IsOwn s role_block_on) (sym same) own_last)
       | inr differ ↦ places_before.ready m low (omega (arith, high, differ))
@@ -496,10 +500,10 @@ rests_of {parts} {s} {disks} {disks_on} {taken} {taken_on} {last} {f} {a} {b} R 
 }
 
 -- where clusters rest, none is ready
-pub rests_stand : {s : Shape} {disks : List (List ℕ)} {taken : ℕ → Bool} {last f : ℕ} {w : World} → Rests s disks taken last f w → Stands s disks last last f w
+pub rests_stand : {s : Shape} {disks : List (List ℕ)} {taken : ℕ → Bool} {last f : ℕ} {w : World} → Rests s disks taken last f w → IsStanding s disks last last f w
 rests_stand rests told =
     let r = rests told in
-    record { role = r.role; ready = λ k low high. absurd (omega arith); edge = r.edge; fresh = r.fresh; one = r.one; linked = r.blocks; seen = r.seen; now = r.now }
+    record { role = r.role; order = omega arith; ready = λ k low high. absurd (omega arith); edge = r.edge; fresh = r.fresh; one = r.one; linked = r.blocks; seen = r.seen; now = r.now }
 
 -- ---- a sync: what isn't named is free, and the disks that may be mixed are one
 
@@ -525,6 +529,7 @@ module _ {s : Shape} {disks : List (List ℕ)} {first last f : ℕ} {a b : World
       waiting.since (holds_of st),
       record {
         role = st.role;
+        order = st.order;
         ready = st.ready;
         edge = st.edge;
         fresh = st.fresh;
@@ -593,7 +598,7 @@ module _ {s : Shape} {disks : List (List ℕ)} {first last f : ℕ} {a b : World
 -- from one standing to rest
 pub rests_from : {parts : Parts} {s : Shape} {disks disks_on : List (List ℕ)} {taken : ℕ → Bool} {first last f : ℕ} {a b : World} (R : List ℕ → Type 0) → Runs parts a b → IsSound b
     → (IsTrue a.tells → Standing s disks first last f a → EachSince b a.now f R × Resting s disks_on taken last f b)
-    → Moves f R (Stands s disks first last f) (Rests s disks_on taken last f) a b
+    → Moves f R (IsStanding s disks first last f) (Rests s disks_on taken last f) a b
 rests_from {parts} {s} {disks} {disks_on} {taken} {first} {last} {f} {a} {b} R run sound goes = record {
   since = λ stands k low high c left. let told : IsTrue a.tells = subst IsTrue run.goes.tells (told_at b k f c sound left) in (goes told (stands told)).0 k low high c left;
   stands = λ stands told_b. let told : IsTrue a.tells = subst IsTrue run.goes.tells told_b in (goes told (stands told)).1;

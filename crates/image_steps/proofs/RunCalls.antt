@@ -44,6 +44,7 @@ module _ {s : Shape} {disks : List (List ℕ)} {first last k n q i j at spot f :
 
   run_places : Places s run_role (k + n) last
   run_places = record {
+    order = is.to;
     ready = λ x low high. on x (inr low) (st.ready x (omega (arith, low, is.from)) high);
     edge = on_fresh last (inr is.to) st.edge;
     fresh = λ x low. run_taking.others x (inr (omega (arith, is.to, low))) ∙ st.fresh x low;

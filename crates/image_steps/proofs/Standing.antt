@@ -4,7 +4,7 @@ use Rattle.std.proofs.Math.Nat.{mul-le-mul_left}
 use Rattle.std.proofs.lemmas.Bool.{cases_eq, cases_lt}
 use Rattle.disk_model.specs.World.{World, Parts, Runs, IsSound, EachSince, Holds, Leads}
 use Rattle.disk_model.proofs.Laws.{told_at, since_on}
-use Rattle.image_model.specs.Clusters.{Shape, Who, Block, Use, Fresh, Ready, Of, IsGood, IsOwn, Standing, Stands, Moves, IsTaking, IsOwnCount, IsBlock, each}
+use Rattle.image_model.specs.Clusters.{Shape, Who, Block, Use, Fresh, Ready, Of, IsGood, IsOwn, Standing, IsStanding, Moves, IsTaking, IsOwnCount, IsBlock, each}
 use Rattle.image_model.specs.Calls.{IsTakeable, IsAmong}
 use Rattle.image_steps.proofs.Good.{more_good}
 
@@ -35,13 +35,14 @@ taking role k who ready = record { ready = ready; taken = put_here role k (Of wh
 -- ---- which clusters are ready and fresh
 
 pub record Places (s : Shape) (role : ℕ → Use) (first last : ℕ) : Type 0 where
+  pub order : first ≤ last
   pub ready : (k : ℕ) → first ≤ k → k < last → (role k ≡ Ready) ⊎ IsOwn s role k
   pub edge : (role last ≡ Fresh) ⊎ IsOwn s role last
   pub fresh : (k : ℕ) → last < k → role k ≡ Fresh
   pub one : (i a b : ℕ) → role a ≡ Of (Block i) → role b ≡ Of (Block i) → a ≡ b
 
 pub places : {s : Shape} {disks : List (List ℕ)} {first last f : ℕ} {w : World} (st : Standing s disks first last f w) → Places s st.role first last
-places st = record { ready = st.ready; edge = st.edge; fresh = st.fresh; one = st.one }
+places st = record { order = st.order; ready = st.ready; edge = st.edge; fresh = st.fresh; one = st.one }
 
 -- blocks before the next cluster are linked
 abbrev pub AreLinked : Shape → (ℕ → Use) → ℕ → List ℕ → Type 0
@@ -92,6 +93,7 @@ module _ (s : Shape) (role role_on : ℕ → Use) (first last k : ℕ) (who : Wh
   -- a cluster was taken, and those before it are left
   pub taken_places : Places s role first last → Places s role_on (k + 1) last
   taken_places at = record {
+    order = omega (arith, to);
     ready = λ m low high. on m (λ same. absurd (omega (arith, same, low))) (at.ready m (omega (arith, low, from)) high);
     edge = on_fresh last (λ same. absurd (omega (arith, same, to))) at.edge;
     fresh = λ m low. taking.others m (λ same. absurd (omega (arith, same, low, to))) ∙ at.fresh m low;
@@ -107,12 +109,12 @@ pub holds_of : {s : Shape} {disks : List (List ℕ)} {first last f : ℕ} {w : W
 holds_of st = record { seen = λ told. st.seen; each = st.now }
 
 pub stand_on : {s : Shape} {disks : List (List ℕ)} {first last f : ℕ} {w : World} (role : ℕ → Use) → Places s role first last → IsTrue w.tells → AreLinked s role last (w.seen f) → Holds f (IsGood s role disks) (IsGood s role disks) w → Standing s disks first last f w
-stand_on role at told linked holds = record { role = role; ready = at.ready; edge = at.edge; fresh = at.fresh; one = at.one; linked = linked; seen = holds.seen told; now = holds.each }
+stand_on role at told linked holds = record { role = role; order = at.order; ready = at.ready; edge = at.edge; fresh = at.fresh; one = at.one; linked = linked; seen = holds.seen told; now = holds.each }
 
 -- what is shown where files are told
 pub moves_of : {parts : Parts} {s : Shape} {disks disks_on : List (List ℕ)} {first last first_on last_on f : ℕ} {a b : World} (R : List ℕ → Type 0) → Runs parts a b → IsSound b
     → (IsTrue a.tells → Standing s disks first last f a → EachSince b a.now f R × Standing s disks_on first_on last_on f b)
-    → Moves f R (Stands s disks first last f) (Stands s disks_on first_on last_on f) a b
+    → Moves f R (IsStanding s disks first last f) (IsStanding s disks_on first_on last_on f) a b
 moves_of {parts} {s} {disks} {disks_on} {first} {last} {first_on} {last_on} {f} {a} {b} R run sound goes = record {
   since = λ stands k low high c left. let told : IsTrue a.tells = subst IsTrue run.goes.tells (told_at b k f c sound left) in (goes told (stands told)).0 k low high c left;
   stands = λ stands told_b. let told : IsTrue a.tells = subst IsTrue run.goes.tells told_b in (goes told (stands told)).1;
@@ -140,12 +142,13 @@ pub moves_more : {f : ℕ} {R S : List ℕ → Type 0} {I J K : World → Type 0
 moves_more more stands moves = record { since = λ is k low high c left. more c (moves.since is k low high c left); stands = λ is. stands (moves.stands is) }
 
 -- a disk more, and fewer ready clusters
-pub stands_less : {s : Shape} {disks : List (List ℕ)} {first on last f : ℕ} {w : World} (e : List ℕ) → first ≤ on → Stands s disks first last f w → Stands s (e ∷ disks) on last f w
-stands_less {s} {disks} {first} {on} {last} {f} {w} e less stands told =
+pub stands_less : {s : Shape} {disks : List (List ℕ)} {first on last f : ℕ} {w : World} (e : List ℕ) → first ≤ on → on ≤ last → IsStanding s disks first last f w → IsStanding s (e ∷ disks) on last f w
+stands_less {s} {disks} {first} {on} {last} {f} {w} e less low stands told =
     let st = stands told in
     record {
       role = st.role;
-      ready = λ k low high. st.ready k (omega (arith, low, less)) high;
+      order = low;
+      ready = λ k from high. st.ready k (omega (arith, from, less)) high;
       edge = st.edge;
       fresh = st.fresh;
       one = st.one;

@@ -3,7 +3,7 @@ use Rattle.std.proofs.Common.{◌≡◌, inl, ℕ, ◌+◌, ◌≤◌, IsTrue, L
 use Rattle.disk_model.specs.Files.{overlay}
 use Rattle.disk_model.specs.World.{World, Parts, Runs, IsSound, Writes, HasWritten, Syncs, HasSynced, EachNow, EachSince, Leads, Holds}
 use Rattle.disk_model.proofs.Laws.{write_leads, sync_leads, lead_on, synced_exact, told_at, length-overlay}
-use Rattle.image_model.specs.Clusters.{Shape, place, IsGood, IsSafe, Standing, Stands, Moves, Block}
+use Rattle.image_model.specs.Clusters.{Shape, place, IsGood, IsSafe, Standing, IsStanding, Moves, Block}
 use Rattle.image_model.specs.Calls.{IsOpened, IsReach, Beginning, Begins}
 use Rattle.image_steps.proofs.Opening.{role_at, role_back, same_block, fresh_from, one_block, opened_good, opened_safe, reaches}
 
@@ -22,6 +22,7 @@ begins_here {s} {next} {f} {w} is same = record {
 pub begun_stands : {s : Shape} {next f : ℕ} {file : List ℕ} {w : World} → Beginning s next file f w → place s next ≤ length (w.seen f) → EachNow w f (λ c. c ≡ w.seen f) → Standing s (file ∷ []) next next f w
 begun_stands {s} {next} {f} {file} {w} begins long same = record {
   role = role_at s next file begins.opened;
+  order = omega arith;
   ready = λ k low high. absurd (omega arith);
   edge = inl (fresh_from s next file begins.opened next (omega arith));
   fresh = λ k from. fresh_from s next file begins.opened k (omega (arith, from));
@@ -84,7 +85,7 @@ begin_moves {parts} {s} {next} {f} {file} {a} {b} R run sound goes = record {
 
 pub begin_stands : {parts : Parts} {s : Shape} {next f first last : ℕ} {disks : List (List ℕ)} {file : List ℕ} {a b : World} (R : List ℕ → Type 0) → Runs parts a b → IsSound b
     → (IsTrue a.tells → Beginning s next file f a → EachSince b a.now f R × Standing s disks first last f b)
-    → Moves f R (Begins s next file f) (Stands s disks first last f) a b
+    → Moves f R (Begins s next file f) (IsStanding s disks first last f) a b
 begin_stands {parts} {s} {next} {f} {first} {last} {disks} {file} {a} {b} R run sound goes = record {
   since = λ begins k low high c left. let told : IsTrue a.tells = subst IsTrue run.goes.tells (told_at b k f c sound left) in (goes told (begins told)).0 k low high c left;
   stands = λ begins told_b. let told : IsTrue a.tells = subst IsTrue run.goes.tells told_b in (goes told (begins told)).1;

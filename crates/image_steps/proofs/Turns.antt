@@ -7,7 +7,7 @@ use Rattle.disk_model.specs.World.{World, Parts, Runs, Syncs, HasSynced, version
 use Rattle.disk_model.proofs.Laws.{number_same, same_file, byte-overlay_in, byte-overlay_outside, length-overlay_inside, told_at, whole_torn, synced_exact, sync_keeps, since_sync, sync_more}
 use Rattle.qc_layout.specs.Header.{fields_of}
 use Rattle.qc_layout.specs.Disks.{bits_of, words_in, counts_in}
-use Rattle.image_model.specs.Clusters.{Shape, size, per, place, Who, Head, Counts, Block, Tables, Table, Guest, Bitmaps, Held, IsBlock, IsTable, IsGuest, Refers, IsCounted, Use, Free, Fresh, Spare, Ready, Of, IsTaken, IsBlank, IsFixed, IsFixedFor, SameIn, IsZero, IsUsed, IsShape, IsPlace, IsOffset, Lies, Forms, IsTableWord, IsGuestWord, IsKept, IsGood, IsSafe, IsHeld, IsOwn, IsOwnCount, Standing, Stands, Moves}
+use Rattle.image_model.specs.Clusters.{Shape, size, per, place, Who, Head, Counts, Block, Tables, Table, Guest, Bitmaps, Held, IsBlock, IsTable, IsGuest, Refers, IsCounted, Use, Free, Fresh, Spare, Ready, Of, IsTaken, IsBlank, IsFixed, IsFixedFor, SameIn, IsZero, IsUsed, IsShape, IsPlace, IsOffset, Lies, Forms, IsTableWord, IsGuestWord, IsKept, IsGood, IsSafe, IsHeld, IsOwn, IsOwnCount, Standing, IsStanding, Moves}
 use Rattle.image_model.specs.Turns.{SameNumbers, SameHead, IsLoose, IsTurn, Stood, rebased, IsTurned, Turns, Wavering, Turning, IsEither}
 use Rattle.image_steps.proofs.Places.{Spares, Elsewhere, within, spares_more, torn_spares, place_zero}
 use Rattle.image_steps.proofs.Steps.{taken_of, same_count, guest_back}
@@ -392,6 +392,7 @@ module _ (s : Shape) (some : 0 < s.sectors) (owner : ℕ → Option Held) (base 
   pub turned_stood : Stood to disks first last new
   turned_stood = record {
     role = role_on;
+    order = st.order;
     ready = λ k low high.
         let kept : IsLoose s first last k old → ⊥ = λ loose. omega (arith, low, loose.low) in
         ⊎_elim (λ (is : st.role k ≡ Ready). inl (stays k (λ w. no_ready (st.role k) is w) kept ∙ is)) (λ (own : IsOwn s st.role k). inr (own_on k kept own)) (st.ready k low high);
@@ -480,7 +481,7 @@ abbrev pub OldOrNew : List ℕ → List ℕ → List ℕ → Type 0
 OldOrNew old sector file = (file ≡ old) ⊎ (file ≡ overlay old 0 sector)
 
 pub stood_of : {s : Shape} {disks : List (List ℕ)} {first last f : ℕ} {w : World} → Standing s disks first last f w → Stood s disks first last (w.seen f)
-stood_of st = record { role = st.role; ready = st.ready; edge = st.edge; fresh = st.fresh; one = st.one; linked = st.linked; good = st.seen }
+stood_of st = record { role = st.role; order = st.order; ready = st.ready; edge = st.edge; fresh = st.fresh; one = st.one; linked = st.linked; good = st.seen }
 
 pub stood_safe : {s : Shape} {disks : List (List ℕ)} {first last : ℕ} {file : List ℕ} → Stood s disks first last file → IsSafe s disks file
 stood_safe {s} {disks} {first} {last} {file} st = safe s st.role disks file st.good
@@ -495,6 +496,7 @@ stood_stands {s} {disks} {first} {last} {f} {w} st same =
     let good : IsGood s st.role (w.seen f ∷ []) (w.seen f) = record { lies = st.good.lies; forms = st.good.forms; kept = is_shown s [] (w.seen f) } in
     record {
       role = st.role;
+      order = st.order;
       ready = st.ready;
       edge = st.edge;
       fresh = st.fresh;
@@ -610,6 +612,7 @@ module _ (s t : Shape) (disks : List (List ℕ)) (first last : ℕ) (sector : Li
                 inl (
                   record {
                     role = st.role;
+                    order = st.order;
                     ready = st.ready;
                     edge = st.edge;
                     fresh = st.fresh;
@@ -632,7 +635,7 @@ module _ (s t : Shape) (disks : List (List ℕ)) (first last : ℕ) (sector : Li
     }
 
     -- once all is done
-    pub turned_stands : Holds f (λ c. c ≡ overlay (a.seen f) 0 sector) (λ c. c ≡ overlay (a.seen f) 0 sector) d → (IsTrue a.tells → IsTurning (a.seen f)) → Stands t (d.seen f ∷ []) first last f d × (IsTrue a.tells → IsShape t)
+    pub turned_stands : Holds f (λ c. c ≡ overlay (a.seen f) 0 sector) (λ c. c ≡ overlay (a.seen f) 0 sector) d → (IsTrue a.tells → IsTurning (a.seen f)) → IsStanding t (d.seen f ∷ []) first last f d × (IsTrue a.tells → IsShape t)
     turned_stands holds is = (
       λ told.
           let new : d.seen f ≡ overlay (a.seen f) 0 sector = holds.seen told in
@@ -640,7 +643,7 @@ module _ (s t : Shape) (disks : List (List ℕ)) (first last : ℕ) (sector : Li
       λ told. (turned_new (a.seen f) (is told)).shape,
     )
 
-    pub turned_move : Holds f (λ c. c ≡ overlay (a.seen f) 0 sector) (λ c. c ≡ overlay (a.seen f) 0 sector) d → Moves f (IsEither s t disks) (Turning s t disks first last sector f) (Stands t (d.seen f ∷ []) first last f) a d
+    pub turned_move : Holds f (λ c. c ≡ overlay (a.seen f) 0 sector) (λ c. c ≡ overlay (a.seen f) 0 sector) d → Moves f (IsEither s t disks) (Turning s t disks first last sector f) (IsStanding t (d.seen f ∷ []) first last f) a d
     turned_move holds = record { since = turns_move.since; stands = λ is. (turned_stands holds (waits is)).0 }
 
 -- ---- after one that failed, a sync tells which it is
@@ -674,6 +677,7 @@ turn_stays {s} {t} {disks} {first} {last} {f} {sector} {a} {b} sound sound_b cal
             inl (
               record {
                 role = st.role;
+                order = st.order;
                 ready = st.ready;
                 edge = st.edge;
                 fresh = st.fresh;

@@ -5,7 +5,7 @@ use Rattle.std.proofs.lemmas.Nat.{from_be_bytes-to_be_bytes_8}
 use Rattle.disk_model.specs.World.{HasSynced}
 use Rattle.disk_model.proofs.Laws.{run_on}
 use Rattle.file_device.proofs.Laws.{puts_err, puts_on}
-use Rattle.image_model.specs.Clusters.{Shape, IsSafe, Stands}
+use Rattle.image_model.specs.Clusters.{Shape, IsSafe, IsStanding}
 use Rattle.image_model.specs.Calls.{IsAddingBlock}
 use Rattle.image_steps.proofs.Standing.{moves_of}
 use Rattle.image_steps.proofs.Pools.{block_grown, block_counted, block_synced, block_wrote, block_failed, block_done, block_there, block_keeps_links, by_answer, by_error}
@@ -14,20 +14,20 @@ use Rattle.image_calls.proofs.counts.add_block.Goals as goal
 pub returns-in_err-write-clause-moves : goal.returns-in_err-write-clause-moves
 returns-in_err-write-clause-moves g c s disks first last i slot is =
     let sound = g.met.D.Depot.sound in
-    by_error (Stands s disks first last c.args.file.0) first last 1 c.from_residual.result c.from_residual.ensures.0
+    by_error (IsStanding s disks first last c.args.file.0) first last 1 c.from_residual.result c.from_residual.ensures.0
     (moves_of (IsSafe s disks) c.write.ensures.wrote.call.run (sound _) (λ told st. block_grown is (sound _) (sound _) c.write.ensures.wrote.call told st))
 
 pub returns-in_err-write-2-clause-moves : goal.returns-in_err-write-2-clause-moves
 returns-in_err-write-2-clause-moves g c s disks first last i slot is =
     let sound = g.met.D.Depot.sound in
-    by_error (Stands s disks first last c.args.file.0) first last 1 c.from_residual-in_err-write-2.result c.from_residual-in_err-write-2.ensures.0
+    by_error (IsStanding s disks first last c.args.file.0) first last 1 c.from_residual-in_err-write-2.result c.from_residual-in_err-write-2.ensures.0
     (moves_of (IsSafe s disks) (run_on c.write.ensures.wrote.call.run c.write-2.ensures.wrote.call.run) (sound _)
     (λ told st. block_counted is (sound _) (sound _) c.write.ensures.wrote.call told st (sound _) c.write-2.ensures.wrote.call))
 
 pub returns-in_err-sync-clause-moves : goal.returns-in_err-sync-clause-moves
 returns-in_err-sync-clause-moves g c s disks first last i slot is =
     let sound = g.met.D.Depot.sound in
-    by_error (Stands s disks first last c.args.file.0) first last 1 c.from_residual-in_err-sync.result c.from_residual-in_err-sync.ensures.0
+    by_error (IsStanding s disks first last c.args.file.0) first last 1 c.from_residual-in_err-sync.result c.from_residual-in_err-sync.ensures.0
     (moves_of (IsSafe s disks) (run_on (run_on c.write.ensures.wrote.call.run c.write-2.ensures.wrote.call.run) c.sync.ensures.synced.call.run) (sound _)
     (λ told st. block_synced is (sound _) (sound _) c.write.ensures.wrote.call told st (sound _) c.write-2.ensures.wrote.call (sound _) c.sync.ensures.synced.call))
 
@@ -37,7 +37,7 @@ returns-in_err-write-3-clause-moves g c s disks first last i slot is =
     let eight : length c.to_be_bytes.result ≡ 8 = search rules in
     let says : from_be_bytes w64 c.to_be_bytes.result ≡ c.args.word =
     ap (λ (bs : List ℕ). from_be_bytes w64 bs) c.to_be_bytes.ensures ∙ from_be_bytes-to_be_bytes_8 c.args.word c.ranges.word.fits in
-    by_error (Stands s disks first last c.args.file.0) first last 1 c.from_residual-in_err-write-3.result c.from_residual-in_err-write-3.ensures.0
+    by_error (IsStanding s disks first last c.args.file.0) first last 1 c.from_residual-in_err-write-3.result c.from_residual-in_err-write-3.ensures.0
     (moves_of (IsSafe s disks) (run_on (run_on (run_on c.write.ensures.wrote.call.run c.write-2.ensures.wrote.call.run) c.sync.ensures.synced.call.run) c.write-3.ensures.wrote.call.run) (sound _)
     (λ told st. block_wrote is (sound _) (sound _) c.write.ensures.wrote.call told st (sound _) c.write-2.ensures.wrote.call (sound _) c.sync.ensures.synced.call c.in_ok-write.ensures.wrote.done c.in_ok-write-2.ensures.wrote.done c.in_ok-sync.ensures.synced.done
     (sound _) c.write-3.ensures.wrote.call eight says))
@@ -49,7 +49,7 @@ returns-clause-moves g c s disks first last i slot is =
     let says : from_be_bytes w64 c.to_be_bytes.result ≡ c.args.word =
     ap (λ (bs : List ℕ). from_be_bytes w64 bs) c.to_be_bytes.ensures ∙ from_be_bytes-to_be_bytes_8 c.args.word c.ranges.word.fits in
     let run = run_on (run_on (run_on (run_on c.write.ensures.wrote.call.run c.write-2.ensures.wrote.call.run) c.sync.ensures.synced.call.run) c.write-3.ensures.wrote.call.run) c.sync-2.ensures.synced.call.run in
-    by_answer (Stands s disks first last c.args.file.0) first last 1 c.sync-2.result _ c.sync-2.ensures.synced.done
+    by_answer (IsStanding s disks first last c.args.file.0) first last 1 c.sync-2.result _ c.sync-2.ensures.synced.done
     (moves_of (IsSafe s disks) run (sound _)
     (λ told st. block_failed is (sound _) (sound _) c.write.ensures.wrote.call told st (sound _) c.write-2.ensures.wrote.call (sound _) c.sync.ensures.synced.call c.in_ok-write.ensures.wrote.done c.in_ok-write-2.ensures.wrote.done c.in_ok-sync.ensures.synced.done
     (sound _) c.write-3.ensures.wrote.call eight says (sound _) c.sync-2.ensures.synced.call))
@@ -65,7 +65,7 @@ returns-clause-linked g c =
     ap (λ (bs : List ℕ). from_be_bytes w64 bs) c.to_be_bytes.ensures ∙ from_be_bytes-to_be_bytes_8 c.args.word c.ranges.word.fits in
     on_ok_weaker c.sync-2.result
     (λ (synced : HasSynced c.args.file.0 (g.D.Outside.world c.write-3.new.depot) (g.D.Outside.world c.sync-2.new.depot)) (s : Shape) (disks : List (List ℕ)) (first : ℕ) (last : ℕ) (i : ℕ) (slot : ℕ)
-    (is : IsAddingBlock s i last slot c.args.spot c.args.finish c.args.end c.args.at c.args.word c.args.file.0 (g.D.Outside.world c.args.depot.now)) (stands : Stands s disks first last c.args.file.0 (g.D.Outside.world c.args.depot.now)) (told : IsTrue (g.D.Outside.world c.args.depot.now).tells). (
+    (is : IsAddingBlock s i last slot c.args.spot c.args.finish c.args.end c.args.at c.args.word c.args.file.0 (g.D.Outside.world c.args.depot.now)) (stands : IsStanding s disks first last c.args.file.0 (g.D.Outside.world c.args.depot.now)) (told : IsTrue (g.D.Outside.world c.args.depot.now).tells). (
       block_there is (sound _) (sound _) c.write.ensures.wrote.call told (stands told) (sound _) c.write-2.ensures.wrote.call (sound _) c.sync.ensures.synced.call c.in_ok-write.ensures.wrote.done c.in_ok-write-2.ensures.wrote.done c.in_ok-sync.ensures.synced.done
           (sound _) c.write-3.ensures.wrote.call eight says (sound _) c.sync-2.ensures.synced.call c.in_ok-write-3.ensures.wrote.done,
       block_keeps_links is (sound _) (sound _) c.write.ensures.wrote.call told (stands told) (sound _) c.write-2.ensures.wrote.call (sound _) c.sync.ensures.synced.call c.in_ok-write.ensures.wrote.done c.in_ok-write-2.ensures.wrote.done c.in_ok-sync.ensures.synced.done

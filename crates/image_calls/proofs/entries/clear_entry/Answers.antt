@@ -2,7 +2,7 @@ use Rattle.std.proofs.Common.{◌≡◌, ℕ, ◌∷◌, List, IsTrue, length, r
 use Rattle.std.specs.Int.{from_be_bytes, w64}
 use Rattle.std.proofs.lemmas.Result.{on_ok_weaker}
 use Rattle.disk_model.specs.World.{HasWritten}
-use Rattle.image_model.specs.Clusters.{Shape, IsShape, IsTable, IsSafe, Stands}
+use Rattle.image_model.specs.Clusters.{Shape, IsShape, IsTable, IsSafe, IsStanding}
 use Rattle.image_model.specs.Calls.{IsSlot, Told}
 use Rattle.image_steps.proofs.Standing.{moves_of}
 use Rattle.image_steps.proofs.Entries.{cleared, cleared_others, cleared_done, cleared_keeps_links, cleared_but, cleared_whether}
@@ -29,7 +29,7 @@ returns-clause-cleared g c =
     let none : from_be_bytes w64 c.to_be_bytes.result ≡ 0 = search rules in
     on_ok_weaker c.write.result
     (λ (done : HasWritten c.args.file.0 c.args.slot c.to_be_bytes.result (g.D.Outside.world c.args.depot.now) (g.D.Outside.world c.write.new.depot)) (s : Shape) (disks : List (List ℕ)) (first : ℕ) (last : ℕ) (q : ℕ) (i : ℕ) (j : ℕ)
-    (shape : IsShape s) (slot : IsSlot s q i j c.args.slot) (table : Told (λ c. IsTable s c i q) c.args.file.0 (g.D.Outside.world c.args.depot.now)) (stands : Stands s disks first last c.args.file.0 (g.D.Outside.world c.args.depot.now)) (told : IsTrue (g.D.Outside.world c.args.depot.now).tells).
+    (shape : IsShape s) (slot : IsSlot s q i j c.args.slot) (table : Told (λ c. IsTable s c i q) c.args.file.0 (g.D.Outside.world c.args.depot.now)) (stands : IsStanding s disks first last c.args.file.0 (g.D.Outside.world c.args.depot.now)) (told : IsTrue (g.D.Outside.world c.args.depot.now).tells).
     cleared_done shape slot (sound _) (sound _) c.write.ensures.wrote.call eight none told (table told) (stands told) done)
     c.write.ensures.wrote.done
 

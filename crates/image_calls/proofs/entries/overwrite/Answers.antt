@@ -1,7 +1,7 @@
 use Rattle.std.proofs.Common.{ℕ, ◌∷◌, ◌<◌, List, IsTrue, length}
 use Rattle.std.proofs.lemmas.Result.{on_ok_weaker}
 use Rattle.disk_model.specs.World.{HasWritten}
-use Rattle.image_model.specs.Clusters.{Shape, per, IsShape, IsSafe, Stands}
+use Rattle.image_model.specs.Clusters.{Shape, per, IsShape, IsSafe, IsStanding}
 use Rattle.image_model.specs.Calls.{Told, IsIn, IsData}
 use Rattle.image_steps.proofs.Standing.{moves_of}
 use Rattle.image_steps.proofs.Entries.{overwritten, over_others, over_host, over_keeps_links, over_shows, over_entries, over_partly}
@@ -30,7 +30,7 @@ returns-clause-shows g c =
     on_ok_weaker c.write.result
     (λ (done : HasWritten c.args.file.0 c.args.at c.args.bytes.now (g.D.Outside.world c.args.depot.now) (g.D.Outside.world c.write.new.depot)) (s : Shape) (disks : List (List ℕ)) (first : ℕ) (last : ℕ) (k : ℕ) (i : ℕ) (j : ℕ)
     (shape : IsShape s) (i_in : i < s.tables) (j_in : j < per s) (inside : IsIn s k c.args.at (length c.args.bytes.now)) (there : Told (IsData s i j k) c.args.file.0 (g.D.Outside.world c.args.depot.now))
-    (stands : Stands s disks first last c.args.file.0 (g.D.Outside.world c.args.depot.now)) (told : IsTrue (g.D.Outside.world c.args.depot.now).tells).
+    (stands : IsStanding s disks first last c.args.file.0 (g.D.Outside.world c.args.depot.now)) (told : IsTrue (g.D.Outside.world c.args.depot.now).tells).
     over_shows shape i_in j_in inside (sound _) (sound _) c.write.ensures.wrote.call told (there told) (stands told) done)
     c.write.ensures.wrote.done
 

@@ -5,7 +5,7 @@ use Rattle.std.proofs.lemmas.Nat.{from_be_bytes-to_be_bytes_8}
 use Rattle.disk_model.specs.World.{HasWritten}
 use Rattle.disk_model.proofs.Laws.{run_on}
 use Rattle.file_device.proofs.Laws.{puts_on}
-use Rattle.image_model.specs.Clusters.{Shape, IsSafe, Stands}
+use Rattle.image_model.specs.Clusters.{Shape, IsSafe, IsStanding}
 use Rattle.image_model.specs.Calls.{IsPut}
 use Rattle.image_steps.proofs.Standing.{moves_of}
 use Rattle.image_steps.proofs.Entries.{data_failed, data_others, linked_all, linked_others, linked_done, data_keeps_links, linked_keeps_links, linked_shows, data_open, linked_either, data_alike, linked_but, linked_whether}
@@ -46,7 +46,7 @@ returns-clause-linked g c =
     ap (λ (bs : List ℕ). from_be_bytes w64 bs) c.to_be_bytes.ensures ∙ from_be_bytes-to_be_bytes_8 c.args.entry c.ranges.entry.fits in
     on_ok_weaker c.write-2.result
     (λ (done : HasWritten c.args.file.0 c.args.slot c.to_be_bytes.result (g.D.Outside.world c.write.new.depot) (g.D.Outside.world c.write-2.new.depot)) (s : Shape) (disks : List (List ℕ)) (first : ℕ) (last : ℕ) (k : ℕ) (q : ℕ) (i : ℕ) (j : ℕ)
-    (is : IsPut s first last k q i j c.args.at (length c.args.bytes.now) c.args.slot c.args.entry c.args.file.0 (g.D.Outside.world c.args.depot.now)) (stands : Stands s disks first last c.args.file.0 (g.D.Outside.world c.args.depot.now)) (told : IsTrue (g.D.Outside.world c.args.depot.now).tells).
+    (is : IsPut s first last k q i j c.args.at (length c.args.bytes.now) c.args.slot c.args.entry c.args.file.0 (g.D.Outside.world c.args.depot.now)) (stands : IsStanding s disks first last c.args.file.0 (g.D.Outside.world c.args.depot.now)) (told : IsTrue (g.D.Outside.world c.args.depot.now).tells).
     linked_done is (sound _) (sound _) c.write.ensures.wrote.call told (stands told) (sound _) c.write-2.ensures.wrote.call eight says done)
     c.write-2.ensures.wrote.done
 
@@ -71,7 +71,7 @@ returns-clause-shows g c =
     ap (λ (bs : List ℕ). from_be_bytes w64 bs) c.to_be_bytes.ensures ∙ from_be_bytes-to_be_bytes_8 c.args.entry c.ranges.entry.fits in
     on_ok_weaker c.write-2.result
     (λ (done : HasWritten c.args.file.0 c.args.slot c.to_be_bytes.result (g.D.Outside.world c.write.new.depot) (g.D.Outside.world c.write-2.new.depot)) (s : Shape) (disks : List (List ℕ)) (first : ℕ) (last : ℕ) (k : ℕ) (q : ℕ) (i : ℕ) (j : ℕ)
-    (is : IsPut s first last k q i j c.args.at (length c.args.bytes.now) c.args.slot c.args.entry c.args.file.0 (g.D.Outside.world c.args.depot.now)) (stands : Stands s disks first last c.args.file.0 (g.D.Outside.world c.args.depot.now)) (told : IsTrue (g.D.Outside.world c.args.depot.now).tells).
+    (is : IsPut s first last k q i j c.args.at (length c.args.bytes.now) c.args.slot c.args.entry c.args.file.0 (g.D.Outside.world c.args.depot.now)) (stands : IsStanding s disks first last c.args.file.0 (g.D.Outside.world c.args.depot.now)) (told : IsTrue (g.D.Outside.world c.args.depot.now).tells).
     linked_shows is (sound _) (sound _) c.write.ensures.wrote.call told (stands told) (sound _) c.write-2.ensures.wrote.call eight says c.in_ok-write.ensures.wrote.done done)
     c.write-2.ensures.wrote.done
 

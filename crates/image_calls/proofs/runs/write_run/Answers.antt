@@ -3,7 +3,7 @@ use Rattle.std.proofs.lemmas.Result.{on_ok_weaker}
 use Rattle.disk_model.specs.World.{HasWritten}
 use Rattle.disk_model.proofs.Laws.{run_on}
 use Rattle.file_device.proofs.Laws.{puts_on}
-use Rattle.image_model.specs.Clusters.{Shape, IsSafe, Stands}
+use Rattle.image_model.specs.Clusters.{Shape, IsSafe, IsStanding}
 use Rattle.image_model.specs.Runs.{IsRunPut}
 use Rattle.image_steps.proofs.Standing.{moves_of}
 use Rattle.image_steps.proofs.RunCalls.{run_data_failed, run_all, run_data_others, run_others, run_data_keeps, run_keeps, run_data_open, run_either, run_done, run_shows}
@@ -55,7 +55,7 @@ returns-clause-linked g c =
     let sound = g.met.D.Depot.sound in
     on_ok_weaker c.write-2.result
     (λ (done : HasWritten c.args.file.0 c.args.slot c.args.entries.now (g.D.Outside.world c.write.new.depot) (g.D.Outside.world c.write-2.new.depot)) (s : Shape) (disks : List (List ℕ)) (first : ℕ) (last : ℕ) (k : ℕ) (n : ℕ) (q : ℕ) (i : ℕ) (j : ℕ)
-    (is : IsRunPut s first last k n q i j c.args.at (length c.args.bytes.now) c.args.slot c.args.file.0 c.args.entries.now (g.D.Outside.world c.args.depot.now)) (stands : Stands s disks first last c.args.file.0 (g.D.Outside.world c.args.depot.now)) (told : IsTrue (g.D.Outside.world c.args.depot.now).tells).
+    (is : IsRunPut s first last k n q i j c.args.at (length c.args.bytes.now) c.args.slot c.args.file.0 c.args.entries.now (g.D.Outside.world c.args.depot.now)) (stands : IsStanding s disks first last c.args.file.0 (g.D.Outside.world c.args.depot.now)) (told : IsTrue (g.D.Outside.world c.args.depot.now).tells).
     run_done is (sound _) (sound _) c.write.ensures.wrote.call told (stands told) (sound _) c.write-2.ensures.wrote.call done)
     c.write-2.ensures.wrote.done
 
@@ -64,7 +64,7 @@ returns-clause-shows g c =
     let sound = g.met.D.Depot.sound in
     on_ok_weaker c.write-2.result
     (λ (done : HasWritten c.args.file.0 c.args.slot c.args.entries.now (g.D.Outside.world c.write.new.depot) (g.D.Outside.world c.write-2.new.depot)) (s : Shape) (disks : List (List ℕ)) (first : ℕ) (last : ℕ) (k : ℕ) (n : ℕ) (q : ℕ) (i : ℕ) (j : ℕ)
-    (is : IsRunPut s first last k n q i j c.args.at (length c.args.bytes.now) c.args.slot c.args.file.0 c.args.entries.now (g.D.Outside.world c.args.depot.now)) (stands : Stands s disks first last c.args.file.0 (g.D.Outside.world c.args.depot.now)) (told : IsTrue (g.D.Outside.world c.args.depot.now).tells).
+    (is : IsRunPut s first last k n q i j c.args.at (length c.args.bytes.now) c.args.slot c.args.file.0 c.args.entries.now (g.D.Outside.world c.args.depot.now)) (stands : IsStanding s disks first last c.args.file.0 (g.D.Outside.world c.args.depot.now)) (told : IsTrue (g.D.Outside.world c.args.depot.now).tells).
     run_shows is (sound _) (sound _) c.write.ensures.wrote.call told (stands told) (sound _) c.write-2.ensures.wrote.call c.in_ok-write.ensures.wrote.done done)
     c.write-2.ensures.wrote.done
 
