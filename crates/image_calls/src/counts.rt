@@ -3,7 +3,7 @@
 ghost use Rattle.std.specs.Prelude.{◌≡◌, ℕ, List, [], ◌∷◌, ◌+◌, ◌*◌, ◌^◌, ◌<◌, ◌≤◌, length, Bool, OnOk, IsTrue};
 ghost use Rattle.file_device.specs.Calls.{Puts};
 ghost use Rattle.image_model.specs.Clusters.{Shape, each, place, IsShape, IsBlock, IsSafe, IsStanding, Moves};
-ghost use Rattle.image_model.specs.Calls.{Told, IsToppingUp, IsAddingBlock, IsSettling, AreExactly, Rests, Keeps, SameGuest, last_after};
+ghost use Rattle.image_model.specs.Calls.{Told, IsToppingUp, IsAddingBlock, IsSettling, AreExactly, Rests, Reads, LeavesGuest, last_after};
 
 use disk_model::{Depot, Failed, FileNo};
 use file_device::{sync, write};
@@ -23,12 +23,8 @@ pub fn top_up<D: Depot>(
     ensures moves { (s : Shape) (disks : List (List ℕ)) (first last q i low n : ℕ) → IsToppingUp s last q i low n spot finish file.0 counts.now (D.world depot.old) →
         Moves file.0 (IsSafe s disks) (IsStanding s disks first last file.0) (IsStanding s disks first (last_after result last n) file.0) (D.world depot.old) (D.world depot.new) }
 
-    ensures keeps { (s : Shape) (disks : List (List ℕ)) (first last q i low n : ℕ) → IsToppingUp s last q i low n spot finish file.0 counts.now (D.world depot.old) →
-        IsStanding s disks first last file.0 (D.world depot.old) → IsTrue (D.world depot.old).tells → Keeps s ((D.world depot.old).seen file.0) ((D.world depot.new).seen file.0) }
-
-    // Whatever it answers, the guest's entries and its disk are the same.
-    ensures alike { (s : Shape) (disks : List (List ℕ)) (first last q i low n : ℕ) → IsToppingUp s last q i low n spot finish file.0 counts.now (D.world depot.old) →
-        IsStanding s disks first last file.0 (D.world depot.old) → IsTrue (D.world depot.old).tells → SameGuest s ((D.world depot.old).seen file.0) ((D.world depot.new).seen file.0) }
+    ensures leaves { (s : Shape) (disks : List (List ℕ)) (first last q i low n : ℕ) → IsToppingUp s last q i low n spot finish file.0 counts.now (D.world depot.old) →
+        Reads s disks first last file.0 (LeavesGuest s) (D.world depot.old) (D.world depot.new) }
 
     ensures puts { Puts file.0 (D.world depot.old) (D.world depot.new) result }
 {
@@ -56,8 +52,11 @@ pub fn add_block<D: Depot>(
     ensures moves { (s : Shape) (disks : List (List ℕ)) (first last i slot : ℕ) → IsAddingBlock s i last slot spot finish end at word file.0 (D.world depot.old) →
         Moves file.0 (IsSafe s disks) (IsStanding s disks first last file.0) (IsStanding s disks first (last_after result last 1) file.0) (D.world depot.old) (D.world depot.new) }
 
+    ensures leaves { (s : Shape) (disks : List (List ℕ)) (first last i slot : ℕ) → IsAddingBlock s i last slot spot finish end at word file.0 (D.world depot.old) →
+        Reads s disks first last file.0 (LeavesGuest s) (D.world depot.old) (D.world depot.new) }
+
     ensures linked { OnOk result ((s : Shape) (disks : List (List ℕ)) (first last i slot : ℕ) → IsAddingBlock s i last slot spot finish end at word file.0 (D.world depot.old) →
-        IsStanding s disks first last file.0 (D.world depot.old) → IsTrue (D.world depot.old).tells → IsBlock s ((D.world depot.new).seen file.0) i last × Keeps s ((D.world depot.old).seen file.0) ((D.world depot.new).seen file.0)) }
+        Reads s disks first last file.0 (λ old new. IsBlock s new i last) (D.world depot.old) (D.world depot.new)) }
 
     ensures puts { Puts file.0 (D.world depot.old) (D.world depot.new) result }
 {

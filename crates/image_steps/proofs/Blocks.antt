@@ -5,11 +5,12 @@ use Rattle.std.specs.Int.{from_be_bytes, w16, w64}
 use Rattle.disk_model.specs.Files.{byte, reading, number_at, u16_at, u64_at, overlay, IsTorn}
 use Rattle.disk_model.proofs.Laws.{whole_torn, u16_bytes, number-overlay_part, number_either, number-overlay_same, byte-overlay_in, byte-overlay_outside, length-overlay}
 use Rattle.image_model.specs.Clusters.{Shape, size, each, place, Who, Head, Bitmaps, Counts, Block, Tables, Table, Guest, IsBlock, IsCounted, Use, Free, Fresh, Spare, Ready, Of, IsTaken, IsBlank, IsFixed, IsZero, IsShape, Lies, IsOwnCount, IsGood}
-use Rattle.image_model.specs.Calls.{IsTopUp, AreOnes, IsNewBlock, IsSettling, AreNamed, Keeps}
+use Rattle.image_model.specs.Calls.{IsTopUp, AreOnes, IsNewBlock, IsSettling, AreNamed, Keeps, SameGuest}
 use Rattle.image_steps.proofs.Places.{Spares, Elsewhere, torn_spares, spares_more, within, half_spared, place_apart, place_next, place_more, sector_at}
 use Rattle.image_steps.proofs.Steps.{taken_of, quiet_keeps, quiet_forms, data_keeps, counted_on, quiet_counts, block_elsewhere, block_keeps, block_forms, block_on}
 use Rattle.image_steps.proofs.Good.{Change, recast, torn_byte}
 use Rattle.image_steps.proofs.Kept.{outer_kept}
+use Rattle.image_steps.proofs.Naming.{quiet_alike}
 use Rattle.image_steps.proofs.Frame as frame
 
 -- ---- a write within a block, by what becomes of its counts
@@ -358,6 +359,12 @@ module _ {s : Shape} {i last slot spot finish end at word : ℕ} (is : IsNewBloc
           blocks = block_on s some role old new good.lies i last slot is.inside is.some is.is is.slot_in is_block (only_here old good.lies) (some_count old has) is.reach has.1 (row_spares old) (set old);
           tables = frame.table_on s some role old new good.lies (Of Counts) elsewhere (λ e. cc);
         }
+
+    pub block_row_alike : (old : List ℕ) → IsGood s role disks old → IsPrepared old → SameGuest s old (overlay old row bytes)
+    block_row_alike old good has =
+        let new = overlay old row bytes in
+        let elsewhere = block_elsewhere s some role old new good.lies i last slot is.inside is.some is.is is.slot_in is_block (only_here old good.lies) (some_count old has) is.reach has.1 (row_spares old) (set old) in
+        quiet_alike s some role old new good.lies good.forms (Of Counts) elsewhere (λ e. cc) (λ n e. cc) (λ n m e. cc)
 
 -- the block's cluster was fresh
 pub own_change : (s : Shape) (role role_on : ℕ → Use) (i last : ℕ) (file : List ℕ) → IsOwnCount s i last → role last ≡ Fresh → role_on last ≡ Of (Block i) → ((m : ℕ) → m ≢ last → role_on m ≡ role m) → Lies s role file → Lies s role_on file

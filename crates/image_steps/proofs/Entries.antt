@@ -4,15 +4,15 @@ use Rattle.std.specs.Int.{from_be_bytes, w64}
 use Rattle.disk_model.specs.Files.{byte, u64_at, overlay, IsTorn, AgreesAt}
 use Rattle.image_model.specs.Clusters.{Block, word_of, ShowsAs}
 use Rattle.image_model.specs.Calls.{SameGuest, SameBut, IsPartly}
-use Rattle.image_steps.proofs.Naming.{quiet_entry, quiet_alike, other_word, entry_some}
+use Rattle.image_steps.proofs.Naming.{quiet_entry, quiet_alike, other_word, entry_some, table_entry, table_alike, alike_self}
 use Rattle.disk_model.specs.World.{World, IsSound, Writes, HasWritten, EachSince, Leads}
-use Rattle.disk_model.proofs.Laws.{lead_on, lead_more, lead_from, run_on, one_sector_write}
-use Rattle.image_model.specs.Clusters.{Shape, size, per, place, stored, Table, Guest, IsBlock, IsTable, Use, Ready, Of, IsBlank, IsShape, IsZero, host, guest, IsGood, IsSafe, IsLink, IsFilled, IsTaking, Standing}
-use Rattle.image_model.specs.Calls.{IsSlot, IsOpen, IsIn, IsOnly, IsSame, IsPut, IsTablePut, IsData, Keeps, Shows}
+use Rattle.disk_model.proofs.Laws.{lead_on, lead_more, lead_from, run_on, one_sector_write, number-overlay_same}
+use Rattle.image_model.specs.Clusters.{Shape, size, per, place, offset, stored, Table, Guest, IsBlock, IsTable, Use, Ready, Of, IsBlank, IsShape, IsZero, host, guest, IsGood, IsSafe, IsLink, IsFilled, IsTaking, Standing}
+use Rattle.image_model.specs.Calls.{IsSlot, IsOpen, IsIn, IsOnly, IsSame, IsPut, IsTablePut, IsData, Keeps, Shows, LeavesGuest, LeavesOthers, IsNewTable}
 use Rattle.image_steps.proofs.Places.{Spares, within, spared_cluster, torn_spares, spares_more, sector_at}
 use Rattle.image_steps.proofs.Steps.{taken_of}
 use Rattle.image_steps.proofs.Good.{more_safe, more_good, take, data_within, fresh_table, fresh_host, linked_host, word_is, row_spared, row_set, entry_inside}
-use Rattle.image_steps.proofs.Calls.{fresh_leads, in_place_leads, link_leads, hole_leads, row_leads}
+use Rattle.image_steps.proofs.Calls.{fresh_leads, in_place_leads, link_leads, hole_leads, row_leads, row_inside}
 use Rattle.image_steps.proofs.Standing.{put, taking, Places, AreLinked, places, is_ready, taken_places, taken_linked, still_linked, holds_of, leads_stand}
 use Rattle.image_steps.proofs.Kept as kept
 use Rattle.image_steps.proofs.Kept.{guest_some}
@@ -187,15 +187,6 @@ module _ {s : Shape} {disks : List (List ℕ)} {first last q i j spot f : ℕ} {
   cleared_others x y o x_in y_in o_in other =
       (kept.entry_shows s shape.some st.role (a.seen f) (b.seen f) st.seen.lies st.seen.forms q i j hole_table slot.slot hole_spares x y o x_in y_in o_in other).1
 
-  pub cleared_done : HasWritten f spot word a b → IsOpen s q i j (b.seen f)
-  cleared_done done =
-      let new : b.seen f ≡ overlay (a.seen f) (place s q + 8 * j) word = done.seen told ∙ ap (λ (p : ℕ). overlay (a.seen f) p word) slot.at in
-      record {
-        linked = steps.entry_on s shape.some st.role (a.seen f) (b.seen f) st.seen.lies q i j hole_table slot.slot hole_spares i q linked;
-        none = kept.new_host s shape.some st.role (a.seen f) (b.seen f) st.seen.lies st.seen.forms q i j hole_table slot.slot hole_spares linked
-            ∙ ap stored (ap (λ (c : List ℕ). u64_at c (place s q + 8 * j)) new ∙ word_is s shape disks st.role q i j hole_table slot.index slot.slot word eight (a.seen f) ∙ says) ∙ kept.stored_none;
-      }
-
   pub cleared_keeps_links : Keeps s (a.seen f) (b.seen f)
   cleared_keeps_links = record {
     blocks = steps.entry_block_on s shape.some st.role (a.seen f) (b.seen f) st.seen.lies q i j hole_table slot.slot hole_spares;
@@ -205,20 +196,32 @@ module _ {s : Shape} {disks : List (List ℕ)} {first last q i j spot f : ℕ} {
   pub cleared : EachSince b a.now f (IsSafe s (b.seen f ∷ disks)) × Standing s (b.seen f ∷ disks) first last f b
   cleared = leads_stand st st.role (places st) call.run told (still_linked st (b.seen f) cleared_keeps_links.blocks) (hole_leads s shape disks st.role q i j hole_table slot.index slot.slot word eight sound sound_b hole_at says linked)
 
-  pub cleared_but : SameBut s i j (a.seen f) (b.seen f)
-  cleared_but = record {
-    entries = λ x y x_in y_in other. other_word s shape.some st.role (a.seen f) (b.seen f) st.seen.lies st.seen.forms q i j hole_table slot.slot hole_spares x y x_in y_in other;
-    disk = cleared_others;
+  pub cleared_leaves : LeavesOthers s i j (a.seen f) (b.seen f)
+  cleared_leaves = record {
+    keeps = cleared_keeps_links;
+    but = record {
+      entries = λ x y x_in y_in other. other_word s shape.some st.role (a.seen f) (b.seen f) st.seen.lies st.seen.forms q i j hole_table slot.slot hole_spares x y x_in y_in other;
+      disk = cleared_others;
+    };
   }
+
+  cleared_word : b.seen f ≡ overlay (a.seen f) (place s q + 8 * j) word → word_of s (b.seen f) i j ≡ 0
+  cleared_word new =
+      entry_some s (b.seen f) i j q shape.some (steps.entry_on s shape.some st.role (a.seen f) (b.seen f) st.seen.lies q i j hole_table slot.slot hole_spares i q linked)
+      ∙ ap (λ (c : List ℕ). u64_at c (place s q + 8 * j)) new ∙ word_is s shape disks st.role q i j hole_table slot.index slot.slot word eight (a.seen f) ∙ says
 
   pub cleared_whether : ((word_of s (b.seen f) i j ≡ word_of s (a.seen f) i j) × ((o : ℕ) → o < s.sectors → ShowsAs s i j o (b.seen f) (a.seen f))) ⊎ (word_of s (b.seen f) i j ≡ 0)
   cleared_whether = ⊎_elim
       (λ (same : b.seen f ≡ a.seen f). inl (ap (λ (c : List ℕ). word_of s c i j) same, λ o o_in t low high. ap (λ (c : List ℕ). guest s c i j t) same))
-      (λ (new : b.seen f ≡ overlay (a.seen f) (place s q + 8 * j) word). inr
-      (entry_some s (b.seen f) i j q shape.some (steps.entry_on s shape.some st.role (a.seen f) (b.seen f) st.seen.lies q i j hole_table slot.slot hole_spares i q linked)
-      ∙ ap (λ (c : List ℕ). u64_at c (place s q + 8 * j)) new ∙ word_is s shape disks st.role q i j hole_table slot.index slot.slot word eight (a.seen f) ∙ says))
+      (λ (new : b.seen f ≡ overlay (a.seen f) (place s q + 8 * j) word). inr (cleared_word new))
       (one_sector_write (place s q + 8 * j) word (a.seen f) (b.seen f) ((place s q + 8 * j) / 512) (hole_at.torn told)
       (entry_inside s shape disks st.role q i j hole_table slot.index slot.slot word eight (a.seen f) st.seen) (omega arith) (omega (arith, eight, sector_at s q 0)))
+
+  pub cleared_done : HasWritten f spot word a b → IsTable s (b.seen f) i q × (word_of s (b.seen f) i j ≡ 0)
+  cleared_done done = (
+    steps.entry_on s shape.some st.role (a.seen f) (b.seen f) st.seen.lies q i j hole_table slot.slot hole_spares i q linked,
+    cleared_word (done.seen told ∙ ap (λ (p : ℕ). overlay (a.seen f) p word) slot.at),
+  )
 
 -- ---- data in place
 
@@ -266,6 +269,9 @@ module _ {s : Shape} {disks : List (List ℕ)} {first last k i j at f : ℕ} {by
   pub over_entries : (x y : ℕ) → x < s.tables → y < per s → word_of s (b.seen f) x y ≡ word_of s (a.seen f) x y
   over_entries =
       quiet_entry s shape.some st.role (a.seen f) (b.seen f) st.seen.lies st.seen.forms (Of (Guest i j)) (within s st.role (Of (Guest i j)) k (a.seen f) (b.seen f) data_role over_spares) (λ e. cc) (λ n e. cc)
+
+  pub over_leaves : LeavesOthers s i j (a.seen f) (b.seen f)
+  over_leaves = record { keeps = over_keeps_links; but = record { entries = λ x y x_in y_in other. over_entries x y x_in y_in; disk = over_others } }
 
   over_not : (u : Use) (n : ℕ) → u ≡ Of (Guest i j) → u ≡ Of (Block n) → ⊥
   over_not u n x y = cc
@@ -322,13 +328,32 @@ module _ {s : Shape} {disks : List (List ℕ)} {first last t i spot entry f : �
       (lead_from (IsGood s st.role disks) (IsGood s st.role disks) row_has row_has
       (row_leads s is.shape disks row_role t i is.some is.index row_takes.taken word eight row_link sound sound_b row_at (is.none told)))
 
-  pub table_done : HasWritten f spot word a b → (j : ℕ) → j < per s → IsOpen s t i j (b.seen f)
-  table_done done j j_in =
+  -- the entry is as before, or written
+  row_either : (b.seen f ≡ a.seen f) ⊎ (b.seen f ≡ overlay (a.seen f) (s.l1 + 8 * i) word)
+  row_either = one_sector_write (s.l1 + 8 * i) word (a.seen f) (b.seen f) ((s.l1 + 8 * i) / 512) (row_at.torn told)
+      (omega (arith, row_inside s st.role i (a.seen f) is.shape.some is.index st.seen.lies, eight)) (omega arith) (omega (arith, eight, is.shape.l1_place.is, sector_at s is.shape.l1_place.cluster 0))
+
+  row_good : IsGood s row_role disks (a.seen f) × IsZero s (a.seen f) t
+  row_good = row_has (a.seen f) st.seen
+
+  row_done : b.seen f ≡ overlay (a.seen f) (s.l1 + 8 * i) word → offset (u64_at (b.seen f) (s.l1 + 8 * i)) ≡ place s t
+  row_done new = ap (λ (c : List ℕ). offset (u64_at c (s.l1 + 8 * i))) new ∙ row_set s is.shape disks row_role t i is.some is.index row_takes.taken word eight row_link (a.seen f) row_good.0
+
+  pub table_leaves : LeavesGuest s (a.seen f) (b.seen f)
+  table_leaves = record {
+    keeps = table_keeps_links;
+    alike = ⊎_elim
+        (λ (same : b.seen f ≡ a.seen f). subst (SameGuest s (a.seen f)) (sym same) (alike_self s (a.seen f)))
+        (λ (new : b.seen f ≡ overlay (a.seen f) (s.l1 + 8 * i) word).
+        table_alike s is.shape.some row_role (a.seen f) (b.seen f) row_good.0.lies row_good.0.forms t i is.index is.some row_takes.taken row_good.1 table_row_spares (row_done new) (is.none told))
+        row_either;
+  }
+
+  pub table_done : HasWritten f spot word a b → IsNewTable s t i entry (b.seen f)
+  table_done done =
       let new : b.seen f ≡ overlay (a.seen f) (s.l1 + 8 * i) word = done.seen told ∙ ap (λ (p : ℕ). overlay (a.seen f) p word) is.at in
-      let has = row_has (a.seen f) st.seen in
-      let spares = row_spared s is.shape disks row_role t i is.some is.index row_takes.taken word eight row_link (a.seen f) in
-      let set = row_set s is.shape disks row_role t i is.some is.index row_takes.taken word eight row_link (a.seen f) has.0 in
-      subst (λ (c : List ℕ). IsOpen s t i j c) (sym new) (record {
-        linked = record { inside = is.index; some = is.some; at = set };
-        none = kept.host_in s is.shape.some row_role (a.seen f) (overlay (a.seen f) (s.l1 + 8 * i) word) has.0.lies has.0.forms t i is.index is.some row_takes.taken has.1 spares set j j_in;
-      })
+      record {
+        linked = record { inside = is.index; some = is.some; at = row_done new };
+        names = ap (λ (c : List ℕ). u64_at c (s.l1 + 8 * i)) new ∙ number-overlay_same w64 (a.seen f) (s.l1 + 8 * i) word eight ∙ says;
+        none = table_entry s is.shape.some row_role (a.seen f) (b.seen f) row_good.0.lies row_good.0.forms t i is.index is.some row_takes.taken row_good.1 table_row_spares (row_done new);
+      }

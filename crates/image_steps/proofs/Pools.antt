@@ -11,11 +11,11 @@ use Rattle.image_steps.proofs.Places.{Spares, Elsewhere, spares_more, place_next
 use Rattle.image_steps.proofs.Frame as frame
 use Rattle.image_steps.proofs.Links.{keeps_on, keeps_by}
 use Rattle.image_steps.proofs.Good.{safe, recast, is_shown}
-use Rattle.image_model.specs.Calls.{SameGuest}
-use Rattle.image_steps.proofs.Naming.{quiet_alike, alike_on}
+use Rattle.image_model.specs.Calls.{SameGuest, LeavesGuest}
+use Rattle.image_steps.proofs.Naming.{quiet_alike, alike_on, alike_self}
 use Rattle.image_steps.proofs.Calls.{count_inside}
 use Rattle.image_steps.proofs.Standing.{put, put_here, put_other, Places, AreLinked, places, same_index, same_own, still_linked, holds_of, stand_on, leads_stand}
-use Rattle.image_steps.proofs.Blocks.{topped_counts, topped_growth, topped_up, end_low, end_high, block_row_keeps, block_growth, block_count, IsPrepared, prepared, block_linked, own_change, settled_good, keep, kept_taken, kept_or, kept_fresh, kept_block, rested}
+use Rattle.image_steps.proofs.Blocks.{topped_counts, topped_growth, topped_up, end_low, end_high, block_row_keeps, block_row_alike, block_growth, block_count, IsPrepared, prepared, block_linked, own_change, settled_good, keep, kept_taken, kept_or, kept_fresh, kept_block, rested}
 
 -- a write that keeps what is good
 pub good_leads : (s : Shape) (role : ℕ → Use) (disks : List (List ℕ)) {f at : ℕ} {bytes : List ℕ} {a b : World} → IsSound a → IsSound b → Writes f at bytes a b
@@ -56,37 +56,43 @@ module _ {s : Shape} {disks : List (List ℕ)} {first last q i low n spot finish
   good_here : IsGood s st.role disks (b.seen f)
   good_here = (growth.after (holds_of st)).seen told_here
 
-  pub top_growth_keeps : Keeps s (a.seen f) (b.seen f)
+  top_growth_keeps : Keeps s (a.seen f) (b.seen f)
   top_growth_keeps =
       keeps_by s is.shape.some st.role (a.seen f) (b.seen f) st.seen.lies Fresh
       (within s st.role Fresh (last + n - 1) (a.seen f) (b.seen f) (fresh_here (last + n - 1) (omega (arith, is.call.some)) (omega (arith, is.call.some)))
       (spares_more finish 1 (place s (last + n - 1)) (size s) (a.seen f) (b.seen f) (end_low is.call is.shape.some st.role block_role disks counts is.long fresh_here) (end_high is.call is.shape.some st.role block_role disks counts is.long fresh_here)
       (torn_spares finish (0 ∷ []) (a.seen f) (b.seen f) (grows.torn told)))) (λ e. cc) (λ e. cc)
 
-  pub top_growth_alike : SameGuest s (a.seen f) (b.seen f)
+  top_growth_alike : SameGuest s (a.seen f) (b.seen f)
   top_growth_alike =
       quiet_alike s is.shape.some st.role (a.seen f) (b.seen f) st.seen.lies st.seen.forms Fresh
       (within s st.role Fresh (last + n - 1) (a.seen f) (b.seen f) (fresh_here (last + n - 1) (omega (arith, is.call.some)) (omega (arith, is.call.some)))
       (spares_more finish 1 (place s (last + n - 1)) (size s) (a.seen f) (b.seen f) (end_low is.call is.shape.some st.role block_role disks counts is.long fresh_here) (end_high is.call is.shape.some st.role block_role disks counts is.long fresh_here)
       (torn_spares finish (0 ∷ []) (a.seen f) (b.seen f) (grows.torn told)))) (λ e. cc) (λ x e. cc) (λ x y e. cc)
 
+  pub top_growth_leaves : LeavesGuest s (a.seen f) (b.seen f)
+  top_growth_leaves = record { keeps = top_growth_keeps; alike = top_growth_alike }
+
   pub top_growth : EachSince b a.now f (IsSafe s disks) × Standing s disks first last f b
   top_growth = leads_stand st st.role (places st) grows.run told (still_linked st (b.seen f) top_growth_keeps.blocks) growth
 
   module _ {d : World} (sound_d : IsSound d) (counted : Writes f spot counts b d) where
-    pub top_counts_keep : Keeps s (a.seen f) (d.seen f)
+    top_counts_keep : Keeps s (a.seen f) (d.seen f)
     top_counts_keep =
         keeps_on s (a.seen f) (b.seen f) (d.seen f) top_growth_keeps
         (keeps_by s is.shape.some st.role (b.seen f) (d.seen f) good_here.lies (Of (Block i))
         (within s st.role (Of (Block i)) q (b.seen f) (d.seen f) block_role
         (spares_more spot (length counts) (place s q) (size s) (b.seen f) (d.seen f) (omega (arith, is.call.spot_is)) (omega (arith, is.call.spot_is, is.long, is.call.within)) (torn_spares spot counts (b.seen f) (d.seen f) (counted.torn told_here)))) (λ e. cc) (λ e. cc))
 
-    pub top_counts_alike : SameGuest s (a.seen f) (d.seen f)
+    top_counts_alike : SameGuest s (a.seen f) (d.seen f)
     top_counts_alike =
         alike_on s (a.seen f) (b.seen f) (d.seen f) top_growth_alike
         (quiet_alike s is.shape.some st.role (b.seen f) (d.seen f) good_here.lies good_here.forms (Of (Block i))
         (within s st.role (Of (Block i)) q (b.seen f) (d.seen f) block_role
         (spares_more spot (length counts) (place s q) (size s) (b.seen f) (d.seen f) (omega (arith, is.call.spot_is)) (omega (arith, is.call.spot_is, is.long, is.call.within)) (torn_spares spot counts (b.seen f) (d.seen f) (counted.torn told_here)))) (λ e. cc) (λ x e. cc) (λ x y e. cc))
+
+    pub top_counts_leave : LeavesGuest s (a.seen f) (d.seen f)
+    top_counts_leave = record { keeps = top_counts_keep; alike = top_counts_alike }
 
     counting : Leads f (IsGood s st.role disks) (IsGood s st.role disks) (IsSafe s disks) (IsGood s st.role disks) (IsGood s st.role disks) a d
     counting = lead_on grows.run counted.run growth
@@ -311,6 +317,13 @@ module _ {s : Shape} {disks : List (List ℕ)} {first i last slot spot finish en
   keeps_b = keeps_by s is.shape.some role_block_on (a.seen f) (b.seen f) good_a.lies (Of (Block i))
       (around_at finish (end ∷ []) (a.seen f) (b.seen f) (omega (arith, is.call.finish_is, place_next s last, is.shape.some)) (omega (arith, is.call.finish_is, place_next s last)) (grows.torn told)) (λ e. cc) (λ e. cc)
 
+  pub block_leaves_b : LeavesGuest s (a.seen f) (b.seen f)
+  block_leaves_b = record {
+    keeps = keeps_b;
+    alike = quiet_alike s is.shape.some role_block_on (a.seen f) (b.seen f) good_a.lies good_a.forms (Of (Block i))
+        (around_at finish (end ∷ []) (a.seen f) (b.seen f) (omega (arith, is.call.finish_is, place_next s last, is.shape.some)) (omega (arith, is.call.finish_is, place_next s last)) (grows.torn told)) (λ e. cc) (λ x e. cc) (λ x y e. cc);
+  }
+
   pub block_grown : EachSince b a.now f (IsSafe s disks) × Standing s disks first last f b
   block_grown = leads_stand st role_block_on places_before grows.run told (linked_before (b.seen f) keeps_b.blocks) growing
 
@@ -327,6 +340,17 @@ module _ {s : Shape} {disks : List (List ℕ)} {first i last slot spot finish en
         (keeps_by s is.shape.some role_block_on (b.seen f) (d.seen f) ((growing.after (holds_of st)).seen told_at_b).lies (Of (Block i))
         (around_at spot (0 ∷ 1 ∷ []) (b.seen f) (d.seen f) (omega (arith, is.call.spot_is)) (omega (arith, is.call.spot_is, is.call.slot_in)) (counts.torn told_at_b)) (λ e. cc) (λ e. cc))
 
+    good_b : Good (b.seen f)
+    good_b = (growing.after (holds_of st)).seen told_at_b
+
+    pub block_leaves_d : LeavesGuest s (a.seen f) (d.seen f)
+    block_leaves_d = record {
+      keeps = keeps_d;
+      alike = alike_on s (a.seen f) (b.seen f) (d.seen f) block_leaves_b.alike
+          (quiet_alike s is.shape.some role_block_on (b.seen f) (d.seen f) good_b.lies good_b.forms (Of (Block i))
+          (around_at spot (0 ∷ 1 ∷ []) (b.seen f) (d.seen f) (omega (arith, is.call.spot_is)) (omega (arith, is.call.spot_is, is.call.slot_in)) (counts.torn told_at_b)) (λ e. cc) (λ x e. cc) (λ x y e. cc));
+    }
+
     pub block_counted : EachSince d a.now f (IsSafe s disks) × Standing s disks first last f d
     block_counted = leads_stand st role_block_on places_before run_d told (linked_before (d.seen f) keeps_d.blocks) counting_d
 
@@ -339,6 +363,9 @@ module _ {s : Shape} {disks : List (List ℕ)} {first i last slot spot finish en
 
       keeps_e : Keeps s (a.seen f) (e.seen f)
       keeps_e = subst (Keeps s (a.seen f)) (sym syncs.seen) keeps_d
+
+      pub block_leaves_e : LeavesGuest s (a.seen f) (e.seen f)
+      block_leaves_e = subst (LeavesGuest s (a.seen f)) (sym syncs.seen) block_leaves_d
 
       pub block_synced : EachSince e a.now f (IsSafe s disks) × Standing s disks first last f e
       block_synced = leads_stand st role_block_on places_before run_e told (linked_before (e.seen f) keeps_e.blocks) syncing_e
@@ -402,6 +429,15 @@ module _ {s : Shape} {disks : List (List ℕ)} {first i last slot spot finish en
             (λ (new : g.seen f ≡ overlay (e.seen f) row_at bytes). subst (Keeps s (e.seen f)) (sym new) (block_row_keeps is.call is.shape.some role_block_on here disks fresh_behind is.shape bytes eight says only (e.seen f) prepared_e.0 prepared_e.1))
             link_either)
 
+        pub block_leaves_g : LeavesGuest s (a.seen f) (g.seen f)
+        block_leaves_g = record {
+          keeps = keeps_g;
+          alike = alike_on s (a.seen f) (e.seen f) (g.seen f) block_leaves_e.alike
+              (⊎_elim (λ (same : g.seen f ≡ e.seen f). subst (SameGuest s (e.seen f)) (sym same) (alike_self s (e.seen f)))
+              (λ (new : g.seen f ≡ overlay (e.seen f) row_at bytes). subst (SameGuest s (e.seen f)) (sym new) (block_row_alike is.call is.shape.some role_block_on here disks fresh_behind is.shape bytes eight says only (e.seen f) prepared_e.0 prepared_e.1))
+              link_either);
+        }
+
         pub block_wrote : EachSince g a.now f (IsSafe s disks) × Standing s disks first last f g
         block_wrote = (since_g, stand_on role_block_on places_before told_g (linked_before (g.seen f) keeps_g.blocks) (linking.after holds_e))
 
@@ -418,6 +454,9 @@ module _ {s : Shape} {disks : List (List ℕ)} {first i last slot spot finish en
             stand_on role_block_on at (subst IsTrue (sym last_sync.run.goes.tells) told_g) linked (ending.after (linking.after holds_e)),
           )
 
+          pub block_leaves_h : LeavesGuest s (a.seen f) (h.seen f)
+          block_leaves_h = subst (LeavesGuest s (a.seen f)) (sym last_sync.seen) block_leaves_g
+
           pub block_failed : EachSince h a.now f (IsSafe s disks) × Standing s disks first last f h
           block_failed = block_end places_before (linked_before (h.seen f) keeps_h.blocks)
 
@@ -431,9 +470,6 @@ module _ {s : Shape} {disks : List (List ℕ)} {first i last slot spot finish en
               some = is.call.some;
               at = ap (λ (c : List ℕ). u64_at c row_at) (last_sync.seen ∙ seen_g) ∙ number-overlay_same w64 (e.seen f) row_at bytes eight ∙ says ∙ is.call.word_is;
             }
-
-            pub block_keeps_links : Keeps s (a.seen f) (h.seen f)
-            block_keeps_links = keeps_h
 
             linked_after : AreLinked s role_block_on (last + 1) (h.seen f)
             linked_after x m e low = elim (cases_eq m last) [

@@ -8,7 +8,7 @@ use Rattle.file_device.proofs.Laws.{puts_err, puts_on}
 use Rattle.image_model.specs.Clusters.{Shape, IsSafe, IsStanding}
 use Rattle.image_model.specs.Calls.{IsAddingBlock}
 use Rattle.image_steps.proofs.Standing.{moves_of}
-use Rattle.image_steps.proofs.Pools.{block_grown, block_counted, block_synced, block_wrote, block_failed, block_done, block_there, block_keeps_links, by_answer, by_error}
+use Rattle.image_steps.proofs.Pools.{block_grown, block_counted, block_synced, block_wrote, block_failed, block_done, block_there, block_leaves_b, block_leaves_d, block_leaves_e, block_leaves_g, block_leaves_h, by_answer, by_error}
 use Rattle.image_calls.proofs.counts.add_block.Goals as goal
 
 pub returns-in_err-write-clause-moves : goal.returns-in_err-write-clause-moves
@@ -57,22 +57,6 @@ returns-clause-moves g c s disks first last i slot is =
     (λ told st. block_done is (sound _) (sound _) c.write.ensures.wrote.call told st (sound _) c.write-2.ensures.wrote.call (sound _) c.sync.ensures.synced.call c.in_ok-write.ensures.wrote.done c.in_ok-write-2.ensures.wrote.done c.in_ok-sync.ensures.synced.done
     (sound _) c.write-3.ensures.wrote.call eight says (sound _) c.sync-2.ensures.synced.call c.in_ok-write-3.ensures.wrote.done))
 
-pub returns-clause-linked : goal.returns-clause-linked
-returns-clause-linked g c =
-    let sound = g.met.D.Depot.sound in
-    let eight : length c.to_be_bytes.result ≡ 8 = search rules in
-    let says : from_be_bytes w64 c.to_be_bytes.result ≡ c.args.word =
-    ap (λ (bs : List ℕ). from_be_bytes w64 bs) c.to_be_bytes.ensures ∙ from_be_bytes-to_be_bytes_8 c.args.word c.ranges.word.fits in
-    on_ok_weaker c.sync-2.result
-    (λ (synced : HasSynced c.args.file.0 (g.D.Outside.world c.write-3.new.depot) (g.D.Outside.world c.sync-2.new.depot)) (s : Shape) (disks : List (List ℕ)) (first : ℕ) (last : ℕ) (i : ℕ) (slot : ℕ)
-    (is : IsAddingBlock s i last slot c.args.spot c.args.finish c.args.end c.args.at c.args.word c.args.file.0 (g.D.Outside.world c.args.depot.now)) (stands : IsStanding s disks first last c.args.file.0 (g.D.Outside.world c.args.depot.now)) (told : IsTrue (g.D.Outside.world c.args.depot.now).tells). (
-      block_there is (sound _) (sound _) c.write.ensures.wrote.call told (stands told) (sound _) c.write-2.ensures.wrote.call (sound _) c.sync.ensures.synced.call c.in_ok-write.ensures.wrote.done c.in_ok-write-2.ensures.wrote.done c.in_ok-sync.ensures.synced.done
-          (sound _) c.write-3.ensures.wrote.call eight says (sound _) c.sync-2.ensures.synced.call c.in_ok-write-3.ensures.wrote.done,
-      block_keeps_links is (sound _) (sound _) c.write.ensures.wrote.call told (stands told) (sound _) c.write-2.ensures.wrote.call (sound _) c.sync.ensures.synced.call c.in_ok-write.ensures.wrote.done c.in_ok-write-2.ensures.wrote.done c.in_ok-sync.ensures.synced.done
-          (sound _) c.write-3.ensures.wrote.call eight says (sound _) c.sync-2.ensures.synced.call c.in_ok-write-3.ensures.wrote.done,
-    ))
-    c.sync-2.ensures.synced.done
-
 pub returns-in_err-write-2-clause-puts : goal.returns-in_err-write-2-clause-puts
 returns-in_err-write-2-clause-puts g c = puts_err c.from_residual-in_err-write-2.ensures.0 (puts_on c.in_ok-write.ensures.wrote.puts c.in_err-write-2.ensures.wrote.puts)
 
@@ -84,3 +68,49 @@ returns-in_err-write-3-clause-puts g c = puts_err c.from_residual-in_err-write-3
 
 pub returns-clause-puts : goal.returns-clause-puts
 returns-clause-puts g c = puts_on (puts_on (puts_on (puts_on c.in_ok-write.ensures.wrote.puts c.in_ok-write-2.ensures.wrote.puts) c.in_ok-sync.ensures.synced.puts) c.in_ok-write-3.ensures.wrote.puts) c.sync-2.ensures.synced.puts
+
+pub returns-in_err-write-clause-leaves : goal.returns-in_err-write-clause-leaves
+returns-in_err-write-clause-leaves g c s disks first last i slot is stands told =
+    let sound = g.met.D.Depot.sound in
+    block_leaves_b is (sound _) (sound _) c.write.ensures.wrote.call told (stands told)
+
+pub returns-in_err-write-2-clause-leaves : goal.returns-in_err-write-2-clause-leaves
+returns-in_err-write-2-clause-leaves g c s disks first last i slot is stands told =
+    let sound = g.met.D.Depot.sound in
+    block_leaves_d is (sound _) (sound _) c.write.ensures.wrote.call told (stands told) (sound _) c.write-2.ensures.wrote.call
+
+pub returns-in_err-sync-clause-leaves : goal.returns-in_err-sync-clause-leaves
+returns-in_err-sync-clause-leaves g c s disks first last i slot is stands told =
+    let sound = g.met.D.Depot.sound in
+    block_leaves_e is (sound _) (sound _) c.write.ensures.wrote.call told (stands told) (sound _) c.write-2.ensures.wrote.call (sound _) c.sync.ensures.synced.call
+
+pub returns-in_err-write-3-clause-leaves : goal.returns-in_err-write-3-clause-leaves
+returns-in_err-write-3-clause-leaves g c s disks first last i slot is stands told =
+    let sound = g.met.D.Depot.sound in
+    let eight : length c.to_be_bytes.result ≡ 8 = search rules in
+    let says : from_be_bytes w64 c.to_be_bytes.result ≡ c.args.word =
+    ap (λ (bs : List ℕ). from_be_bytes w64 bs) c.to_be_bytes.ensures ∙ from_be_bytes-to_be_bytes_8 c.args.word c.ranges.word.fits in
+    block_leaves_g is (sound _) (sound _) c.write.ensures.wrote.call told (stands told) (sound _) c.write-2.ensures.wrote.call (sound _) c.sync.ensures.synced.call c.in_ok-write.ensures.wrote.done c.in_ok-write-2.ensures.wrote.done c.in_ok-sync.ensures.synced.done
+    (sound _) c.write-3.ensures.wrote.call eight says
+
+pub returns-clause-leaves : goal.returns-clause-leaves
+returns-clause-leaves g c s disks first last i slot is stands told =
+    let sound = g.met.D.Depot.sound in
+    let eight : length c.to_be_bytes.result ≡ 8 = search rules in
+    let says : from_be_bytes w64 c.to_be_bytes.result ≡ c.args.word =
+    ap (λ (bs : List ℕ). from_be_bytes w64 bs) c.to_be_bytes.ensures ∙ from_be_bytes-to_be_bytes_8 c.args.word c.ranges.word.fits in
+    block_leaves_h is (sound _) (sound _) c.write.ensures.wrote.call told (stands told) (sound _) c.write-2.ensures.wrote.call (sound _) c.sync.ensures.synced.call c.in_ok-write.ensures.wrote.done c.in_ok-write-2.ensures.wrote.done c.in_ok-sync.ensures.synced.done
+    (sound _) c.write-3.ensures.wrote.call eight says (sound _) c.sync-2.ensures.synced.call
+
+pub returns-clause-linked : goal.returns-clause-linked
+returns-clause-linked g c =
+    let sound = g.met.D.Depot.sound in
+    let eight : length c.to_be_bytes.result ≡ 8 = search rules in
+    let says : from_be_bytes w64 c.to_be_bytes.result ≡ c.args.word =
+    ap (λ (bs : List ℕ). from_be_bytes w64 bs) c.to_be_bytes.ensures ∙ from_be_bytes-to_be_bytes_8 c.args.word c.ranges.word.fits in
+    on_ok_weaker c.sync-2.result
+    (λ (synced : HasSynced c.args.file.0 (g.D.Outside.world c.write-3.new.depot) (g.D.Outside.world c.sync-2.new.depot)) (s : Shape) (disks : List (List ℕ)) (first : ℕ) (last : ℕ) (i : ℕ) (slot : ℕ)
+    (is : IsAddingBlock s i last slot c.args.spot c.args.finish c.args.end c.args.at c.args.word c.args.file.0 (g.D.Outside.world c.args.depot.now)) (stands : IsStanding s disks first last c.args.file.0 (g.D.Outside.world c.args.depot.now)) (told : IsTrue (g.D.Outside.world c.args.depot.now).tells).
+    block_there is (sound _) (sound _) c.write.ensures.wrote.call told (stands told) (sound _) c.write-2.ensures.wrote.call (sound _) c.sync.ensures.synced.call c.in_ok-write.ensures.wrote.done c.in_ok-write-2.ensures.wrote.done c.in_ok-sync.ensures.synced.done
+    (sound _) c.write-3.ensures.wrote.call eight says (sound _) c.sync-2.ensures.synced.call c.in_ok-write-3.ensures.wrote.done)
+    c.sync-2.ensures.synced.done

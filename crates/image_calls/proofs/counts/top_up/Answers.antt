@@ -3,9 +3,9 @@ use Rattle.disk_model.specs.World.{HasSynced}
 use Rattle.disk_model.proofs.Laws.{run_on}
 use Rattle.file_device.proofs.Laws.{puts_err, puts_on}
 use Rattle.image_model.specs.Clusters.{IsSafe, IsStanding}
-use Rattle.image_model.specs.Calls.{Keeps, SameGuest}
+use Rattle.image_model.specs.Calls.{LeavesGuest}
 use Rattle.image_steps.proofs.Standing.{moves_of}
-use Rattle.image_steps.proofs.Pools.{top_growth, top_counts, top_sync, top_done, top_growth_keeps, top_counts_keep, top_growth_alike, top_counts_alike, by_answer, by_error}
+use Rattle.image_steps.proofs.Pools.{top_growth, top_counts, top_sync, top_done, top_growth_leaves, top_counts_leave, by_answer, by_error}
 use Rattle.image_calls.proofs.counts.top_up.Goals as goal
 
 pub returns-in_err-write-clause-moves : goal.returns-in_err-write-clause-moves
@@ -31,35 +31,20 @@ returns-clause-moves g c s disks first last q i low n is =
     (λ (synced : HasSynced c.args.file.0 (g.D.Outside.world c.write-2.new.depot) (g.D.Outside.world c.sync.new.depot)). moves_of (IsSafe s disks) run (sound _)
     (λ told st. top_done is (sound _) (sound _) c.write.ensures.wrote.call told st (sound _) c.write-2.ensures.wrote.call (sound _) c.sync.ensures.synced.call c.in_ok-write.ensures.wrote.done c.in_ok-write-2.ensures.wrote.done synced))
 
-pub returns-in_err-write-clause-keeps : goal.returns-in_err-write-clause-keeps
-returns-in_err-write-clause-keeps g c s disks first last q i low n is stands told =
+pub returns-in_err-write-clause-leaves : goal.returns-in_err-write-clause-leaves
+returns-in_err-write-clause-leaves g c s disks first last q i low n is stands told =
     let sound = g.met.D.Depot.sound in
-    top_growth_keeps is (sound _) (sound _) c.write.ensures.wrote.call told (stands told)
+    top_growth_leaves is (sound _) (sound _) c.write.ensures.wrote.call told (stands told)
 
-pub returns-in_err-write-2-clause-keeps : goal.returns-in_err-write-2-clause-keeps
-returns-in_err-write-2-clause-keeps g c s disks first last q i low n is stands told =
+pub returns-in_err-write-2-clause-leaves : goal.returns-in_err-write-2-clause-leaves
+returns-in_err-write-2-clause-leaves g c s disks first last q i low n is stands told =
     let sound = g.met.D.Depot.sound in
-    top_counts_keep is (sound _) (sound _) c.write.ensures.wrote.call told (stands told) (sound _) c.write-2.ensures.wrote.call
+    top_counts_leave is (sound _) (sound _) c.write.ensures.wrote.call told (stands told) (sound _) c.write-2.ensures.wrote.call
 
-pub returns-clause-keeps : goal.returns-clause-keeps
-returns-clause-keeps g c s disks first last q i low n is stands told =
+pub returns-clause-leaves : goal.returns-clause-leaves
+returns-clause-leaves g c s disks first last q i low n is stands told =
     let sound = g.met.D.Depot.sound in
-    subst (Keeps s _) (sym c.sync.ensures.synced.call.seen) (top_counts_keep is (sound _) (sound _) c.write.ensures.wrote.call told (stands told) (sound _) c.write-2.ensures.wrote.call)
-
-pub returns-in_err-write-clause-alike : goal.returns-in_err-write-clause-alike
-returns-in_err-write-clause-alike g c s disks first last q i low n is stands told =
-    let sound = g.met.D.Depot.sound in
-    top_growth_alike is (sound _) (sound _) c.write.ensures.wrote.call told (stands told)
-
-pub returns-in_err-write-2-clause-alike : goal.returns-in_err-write-2-clause-alike
-returns-in_err-write-2-clause-alike g c s disks first last q i low n is stands told =
-    let sound = g.met.D.Depot.sound in
-    top_counts_alike is (sound _) (sound _) c.write.ensures.wrote.call told (stands told) (sound _) c.write-2.ensures.wrote.call
-
-pub returns-clause-alike : goal.returns-clause-alike
-returns-clause-alike g c s disks first last q i low n is stands told =
-    let sound = g.met.D.Depot.sound in
-    subst (SameGuest s _) (sym c.sync.ensures.synced.call.seen) (top_counts_alike is (sound _) (sound _) c.write.ensures.wrote.call told (stands told) (sound _) c.write-2.ensures.wrote.call)
+    subst (LeavesGuest s _) (sym c.sync.ensures.synced.call.seen) (top_counts_leave is (sound _) (sound _) c.write.ensures.wrote.call told (stands told) (sound _) c.write-2.ensures.wrote.call)
 
 pub returns-in_err-write-2-clause-puts : goal.returns-in_err-write-2-clause-puts
 returns-in_err-write-2-clause-puts g c = puts_err c.from_residual-in_err-write-2.ensures.0 (puts_on c.in_ok-write.ensures.wrote.puts c.in_err-write-2.ensures.wrote.puts)

@@ -6,7 +6,7 @@ use Rattle.disk_model.specs.World.{HasWritten}
 use Rattle.image_model.specs.Clusters.{Shape, IsSafe, IsStanding}
 use Rattle.image_model.specs.Calls.{IsTablePut}
 use Rattle.image_steps.proofs.Standing.{moves_of}
-use Rattle.image_steps.proofs.Entries.{table_added, table_done, table_keeps_links}
+use Rattle.image_steps.proofs.Entries.{table_added, table_done, table_leaves}
 use Rattle.image_calls.proofs.entries.add_table.Goals as goal
 
 pub returns-clause-moves : goal.returns-clause-moves
@@ -29,10 +29,10 @@ returns-clause-linked g c =
     table_done is (sound _) (sound _) c.write.ensures.wrote.call eight says told (stands told) done)
     c.write.ensures.wrote.done
 
-pub returns-clause-keeps : goal.returns-clause-keeps
-returns-clause-keeps g c s disks first last t i is stands told =
+pub returns-clause-leaves : goal.returns-clause-leaves
+returns-clause-leaves g c s disks first last t i is stands told =
     let sound = g.met.D.Depot.sound in
     let eight : length c.to_be_bytes.result ≡ 8 = search rules in
     let says : from_be_bytes w64 c.to_be_bytes.result ≡ c.args.entry =
     ap (λ (bs : List ℕ). from_be_bytes w64 bs) c.to_be_bytes.ensures ∙ from_be_bytes-to_be_bytes_8 c.args.entry c.ranges.entry.fits in
-    table_keeps_links is (sound _) (sound _) c.write.ensures.wrote.call eight says told (stands told)
+    table_leaves is (sound _) (sound _) c.write.ensures.wrote.call eight says told (stands told)

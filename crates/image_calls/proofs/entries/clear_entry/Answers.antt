@@ -5,7 +5,7 @@ use Rattle.disk_model.specs.World.{HasWritten}
 use Rattle.image_model.specs.Clusters.{Shape, IsShape, IsTable, IsSafe, IsStanding}
 use Rattle.image_model.specs.Calls.{IsSlot, Told}
 use Rattle.image_steps.proofs.Standing.{moves_of}
-use Rattle.image_steps.proofs.Entries.{cleared, cleared_others, cleared_done, cleared_keeps_links, cleared_but, cleared_whether}
+use Rattle.image_steps.proofs.Entries.{cleared, cleared_done, cleared_leaves, cleared_whether}
 use Rattle.image_calls.proofs.entries.clear_entry.Goals as goal
 
 pub returns-clause-moves : goal.returns-clause-moves
@@ -14,13 +14,6 @@ returns-clause-moves g c s disks first last q i j shape slot table =
     let eight : length c.to_be_bytes.result ≡ 8 = search rules in
     let none : from_be_bytes w64 c.to_be_bytes.result ≡ 0 = search rules in
     moves_of (IsSafe s (_ ∷ disks)) c.write.ensures.wrote.call.run (sound _) (λ told st. cleared shape slot (sound _) (sound _) c.write.ensures.wrote.call eight none told (table told) st)
-
-pub returns-clause-others : goal.returns-clause-others
-returns-clause-others g c s disks first last q i j shape slot table stands told =
-    let sound = g.met.D.Depot.sound in
-    let eight : length c.to_be_bytes.result ≡ 8 = search rules in
-    let none : from_be_bytes w64 c.to_be_bytes.result ≡ 0 = search rules in
-    cleared_others shape slot (sound _) (sound _) c.write.ensures.wrote.call eight none told (table told) (stands told)
 
 pub returns-clause-cleared : goal.returns-clause-cleared
 returns-clause-cleared g c =
@@ -33,19 +26,12 @@ returns-clause-cleared g c =
     cleared_done shape slot (sound _) (sound _) c.write.ensures.wrote.call eight none told (table told) (stands told) done)
     c.write.ensures.wrote.done
 
-pub returns-clause-keeps : goal.returns-clause-keeps
-returns-clause-keeps g c s disks first last q i j shape slot table stands told =
+pub returns-clause-leaves : goal.returns-clause-leaves
+returns-clause-leaves g c s disks first last q i j shape slot table stands told =
     let sound = g.met.D.Depot.sound in
     let eight : length c.to_be_bytes.result ≡ 8 = search rules in
     let none : from_be_bytes w64 c.to_be_bytes.result ≡ 0 = search rules in
-    cleared_keeps_links shape slot (sound _) (sound _) c.write.ensures.wrote.call eight none told (table told) (stands told)
-
-pub returns-clause-but : goal.returns-clause-but
-returns-clause-but g c s disks first last q i j shape slot table stands told =
-    let sound = g.met.D.Depot.sound in
-    let eight : length c.to_be_bytes.result ≡ 8 = search rules in
-    let none : from_be_bytes w64 c.to_be_bytes.result ≡ 0 = search rules in
-    cleared_but shape slot (sound _) (sound _) c.write.ensures.wrote.call eight none told (table told) (stands told)
+    cleared_leaves shape slot (sound _) (sound _) c.write.ensures.wrote.call eight none told (table told) (stands told)
 
 pub returns-clause-whether : goal.returns-clause-whether
 returns-clause-whether g c s disks first last q i j shape slot table stands told =

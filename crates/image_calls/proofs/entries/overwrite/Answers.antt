@@ -4,7 +4,7 @@ use Rattle.disk_model.specs.World.{HasWritten}
 use Rattle.image_model.specs.Clusters.{Shape, per, IsShape, IsSafe, IsStanding}
 use Rattle.image_model.specs.Calls.{Told, IsIn, IsData}
 use Rattle.image_steps.proofs.Standing.{moves_of}
-use Rattle.image_steps.proofs.Entries.{overwritten, over_others, over_host, over_keeps_links, over_shows, over_entries, over_partly}
+use Rattle.image_steps.proofs.Entries.{overwritten, over_leaves, over_shows, over_entries, over_partly}
 use Rattle.image_calls.proofs.entries.overwrite.Goals as goal
 
 pub returns-clause-moves : goal.returns-clause-moves
@@ -12,17 +12,10 @@ returns-clause-moves g c s disks first last k i j shape i_in j_in inside there =
     let sound = g.met.D.Depot.sound in
     moves_of (IsSafe s (_ ∷ disks)) c.write.ensures.wrote.call.run (sound _) (λ told st. overwritten shape i_in j_in inside (sound _) (sound _) c.write.ensures.wrote.call told (there told) st)
 
-pub returns-clause-others : goal.returns-clause-others
-returns-clause-others g c s disks first last k i j shape i_in j_in inside there stands told =
-    let sound = g.met.D.Depot.sound in (
-      over_others shape i_in j_in inside (sound _) (sound _) c.write.ensures.wrote.call told (there told) (stands told),
-      over_host shape i_in j_in inside (sound _) (sound _) c.write.ensures.wrote.call told (there told) (stands told),
-    )
-
-pub returns-clause-keeps : goal.returns-clause-keeps
-returns-clause-keeps g c s disks first last k i j shape i_in j_in inside there stands told =
+pub returns-clause-leaves : goal.returns-clause-leaves
+returns-clause-leaves g c s disks first last k i j shape i_in j_in inside there stands told =
     let sound = g.met.D.Depot.sound in
-    over_keeps_links shape i_in j_in inside (sound _) (sound _) c.write.ensures.wrote.call told (there told) (stands told)
+    over_leaves shape i_in j_in inside (sound _) (sound _) c.write.ensures.wrote.call told (there told) (stands told)
 
 pub returns-clause-shows : goal.returns-clause-shows
 returns-clause-shows g c =
@@ -34,10 +27,10 @@ returns-clause-shows g c =
     over_shows shape i_in j_in inside (sound _) (sound _) c.write.ensures.wrote.call told (there told) (stands told) done)
     c.write.ensures.wrote.done
 
-pub returns-clause-entries : goal.returns-clause-entries
-returns-clause-entries g c s disks first last k i j shape i_in j_in inside there stands told =
+pub returns-clause-entry : goal.returns-clause-entry
+returns-clause-entry g c s disks first last k i j shape i_in j_in inside there stands told =
     let sound = g.met.D.Depot.sound in
-    over_entries shape i_in j_in inside (sound _) (sound _) c.write.ensures.wrote.call told (there told) (stands told)
+    over_entries shape i_in j_in inside (sound _) (sound _) c.write.ensures.wrote.call told (there told) (stands told) i j i_in j_in
 
 pub returns-clause-partly : goal.returns-clause-partly
 returns-clause-partly g c s disks first last k i j shape i_in j_in inside there stands told =

@@ -16,7 +16,7 @@ pub returns-clause-moves : goal.returns-clause-moves
 returns-clause-moves g c s disks first last t k i j is =
     moves_on c.add_table.ensures.puts.writes c.write_hole.ensures.puts.writes (λ d safe. more_safe s disks _ d safe) (c.add_table.ensures.moves s disks first last t i is.table)
     (λ stands. c.write_hole.ensures.moves s disks (t + 1) last k t i j
-    (second_put c.add_table.ensures.puts.writes is (λ told. c.in_ok-add_table.ensures.linked s disks first last t i is.table stands told) (λ told. c.add_table.ensures.keeps s disks first last t i is.table stands told)))
+    (second_put c.add_table.ensures.puts.writes is (λ told. c.in_ok-add_table.ensures.linked s disks first last t i is.table stands told) (λ told. (c.add_table.ensures.leaves s disks first last t i is.table stands told).keeps)))
 
 pub returns-clause-shows : goal.returns-clause-shows
 returns-clause-shows g c =
@@ -26,7 +26,7 @@ returns-clause-shows g c =
     (s : Shape) (disks : List (List ℕ)) (first : ℕ) (last : ℕ) (t : ℕ) (k : ℕ) (i : ℕ) (j : ℕ)
     (is : IsFirstPut s first last t k i j c.args.row c.args.link c.args.at (length c.args.bytes.now) c.args.slot c.args.entry c.args.file.0 (g.D.Outside.world c.args.depot.now)) (stands : IsStanding s disks first last c.args.file.0 (g.D.Outside.world c.args.depot.now)) (told : IsTrue (g.D.Outside.world c.args.depot.now).tells).
     shows s disks (t + 1) last k t i j
-    (second_put c.add_table.ensures.puts.writes is (λ told. c.in_ok-add_table.ensures.linked s disks first last t i is.table stands told) (λ told. c.add_table.ensures.keeps s disks first last t i is.table stands told))
+    (second_put c.add_table.ensures.puts.writes is (λ told. c.in_ok-add_table.ensures.linked s disks first last t i is.table stands told) (λ told. (c.add_table.ensures.leaves s disks first last t i is.table stands told).keeps))
     ((c.add_table.ensures.moves s disks first last t i is.table).stands stands)
     (subst IsTrue (sym c.add_table.ensures.puts.writes.goes.tells) told))
     c.write_hole.ensures.shows
