@@ -1,9 +1,9 @@
 //! Counts of clusters.
 
 ghost use Rattle.std.specs.Prelude.{◌≡◌, ℕ, List, [], ◌∷◌, ◌+◌, ◌*◌, ◌^◌, ◌<◌, ◌≤◌, length, Bool, OnOk, IsTrue};
-ghost use Rattle.file_device.specs.Calls.{Puts};
-ghost use Rattle.image_model.specs.Clusters.{Shape, each, place, IsShape, IsBlock, IsSafe, IsStanding, Moves};
-ghost use Rattle.image_model.specs.Calls.{Told, IsToppingUp, IsAddingBlock, IsSettling, AreExactly, Rests, Reads, LeavesGuest, last_after};
+ghost use Rattle.file_device.specs.Calls.{Puts, Synced};
+ghost use Rattle.image_model.specs.Clusters.{Shape, each, place, IsShape, IsBlock, IsSafe, IsStanding, Moves, Reads};
+ghost use Rattle.image_model.specs.Calls.{Told, IsToppingUp, IsAddingBlock, IsSettling, AreExactly, Rests, LeavesGuest, LeavesCounts, HasCounts, last_after};
 
 use disk_model::{Depot, Failed, FileNo};
 use file_device::{sync, write};
@@ -24,7 +24,7 @@ pub fn top_up<D: Depot>(
         Moves file.0 (IsSafe s disks) (IsStanding s disks first last file.0) (IsStanding s disks first (last_after result last n) file.0) (D.world depot.old) (D.world depot.new) }
 
     ensures leaves { (s : Shape) (disks : List (List ℕ)) (first last q i low n : ℕ) → IsToppingUp s last q i low n spot finish file.0 counts.now (D.world depot.old) →
-        Reads s disks first last file.0 (LeavesGuest s) (D.world depot.old) (D.world depot.new) }
+        Reads file.0 (IsStanding s disks first last file.0) (LeavesGuest s) (D.world depot.old) (D.world depot.new) }
 
     ensures puts { Puts file.0 (D.world depot.old) (D.world depot.new) result }
 {
@@ -53,10 +53,10 @@ pub fn add_block<D: Depot>(
         Moves file.0 (IsSafe s disks) (IsStanding s disks first last file.0) (IsStanding s disks first (last_after result last 1) file.0) (D.world depot.old) (D.world depot.new) }
 
     ensures leaves { (s : Shape) (disks : List (List ℕ)) (first last i slot : ℕ) → IsAddingBlock s i last slot spot finish end at word file.0 (D.world depot.old) →
-        Reads s disks first last file.0 (LeavesGuest s) (D.world depot.old) (D.world depot.new) }
+        Reads file.0 (IsStanding s disks first last file.0) (LeavesGuest s) (D.world depot.old) (D.world depot.new) }
 
     ensures linked { OnOk result ((s : Shape) (disks : List (List ℕ)) (first last i slot : ℕ) → IsAddingBlock s i last slot spot finish end at word file.0 (D.world depot.old) →
-        Reads s disks first last file.0 (λ old new. IsBlock s new i last) (D.world depot.old) (D.world depot.new)) }
+        Reads file.0 (IsStanding s disks first last file.0) (λ old new. IsBlock s new i last) (D.world depot.old) (D.world depot.new)) }
 
     ensures puts { Puts file.0 (D.world depot.old) (D.world depot.new) result }
 {
@@ -71,8 +71,6 @@ pub fn add_block<D: Depot>(
 pub fn rest<D: Depot>(depot: &mut D, file: FileNo) -> Result<(), Failed>
     requires given { file.0 < (D.world depot.old).given }
 
-    ensures same { (D.world depot.new).seen file.0 ≡ (D.world depot.old).seen file.0 }
-
     ensures stays { (s : Shape) (disks : List (List ℕ)) (first last : ℕ) →
         Moves file.0 (IsSafe s disks) (IsStanding s disks first last file.0) (IsStanding s disks first last file.0) (D.world depot.old) (D.world depot.new) }
 
@@ -82,7 +80,7 @@ pub fn rest<D: Depot>(depot: &mut D, file: FileNo) -> Result<(), Failed>
     ensures rests { OnOk result ((s : Shape) (disks : List (List ℕ)) (taken : ℕ → Bool) (first last : ℕ) → Told (AreExactly s taken) file.0 (D.world depot.old) →
         Moves file.0 (IsSafe s disks) (IsStanding s disks first last file.0) (Rests s ((D.world depot.new).seen file.0 ∷ []) taken last file.0) (D.world depot.old) (D.world depot.new)) }
 
-    ensures puts { Puts file.0 (D.world depot.old) (D.world depot.new) result }
+    ensures synced { Synced file.0 (D.world depot.old) (D.world depot.new) result }
 {
     sync(depot, file)
 }
@@ -99,6 +97,15 @@ pub fn settle_counts<D: Depot>(
 
     ensures moves { (s : Shape) (disks : List (List ℕ)) (taken : ℕ → Bool) (last q i low n : ℕ) → IsShape s → IsSettling s taken q i low n spot counts.now → Told (λ c. IsBlock s c i q) file.0 (D.world depot.old) →
         Moves file.0 (IsSafe s disks) (Rests s disks taken last file.0) (Rests s disks taken last file.0) (D.world depot.old) (D.world depot.new) }
+
+    // Whatever it answers, nothing of the guest's changes, and no other count.
+    ensures leaves { (s : Shape) (disks : List (List ℕ)) (taken : ℕ → Bool) (last q i low n : ℕ) → IsShape s → IsSettling s taken q i low n spot counts.now → Told (λ c. IsBlock s c i q) file.0 (D.world depot.old) →
+        Reads file.0 (Rests s disks taken last file.0) (LeavesGuest s) (D.world depot.old) (D.world depot.new) }
+    ensures others { (s : Shape) (disks : List (List ℕ)) (taken : ℕ → Bool) (last q i low n : ℕ) → IsShape s → IsSettling s taken q i low n spot counts.now → Told (λ c. IsBlock s c i q) file.0 (D.world depot.old) →
+        Reads file.0 (Rests s disks taken last file.0) (LeavesCounts s (each s * i + low) n) (D.world depot.old) (D.world depot.new) }
+
+    ensures counts { OnOk result ((s : Shape) (disks : List (List ℕ)) (taken : ℕ → Bool) (last q i low n : ℕ) → IsShape s → IsSettling s taken q i low n spot counts.now → Told (λ c. IsBlock s c i q) file.0 (D.world depot.old) →
+        Reads file.0 (Rests s disks taken last file.0) (λ old new. HasCounts s (each s * i + low) n counts.now new) (D.world depot.old) (D.world depot.new)) }
 
     ensures puts { Puts file.0 (D.world depot.old) (D.world depot.new) result }
 {

@@ -3,7 +3,7 @@
 ghost use Rattle.std.specs.Prelude.{◌≡◌, ◌⊎◌, ℕ, List, [], ◌∷◌, ◌<◌, ◌≤◌, length, OnOk, IsTrue};
 ghost use Rattle.disk_model.specs.Files.{overlay};
 ghost use Rattle.disk_model.specs.World.{EachSinceSync};
-ghost use Rattle.file_device.specs.Calls.{Puts};
+ghost use Rattle.file_device.specs.Calls.{Puts, Synced};
 ghost use Rattle.file_device.specs.File.{file_of, Gives, Is};
 ghost use Rattle.first_sector.specs.Sectors.{New, OldOrNew};
 ghost use Rattle.image_model.specs.Clusters.{Shape, IsShape, Standing, IsStanding, Moves};
@@ -55,8 +55,7 @@ pub fn after_turn<D: Depot>(depot: &mut D, file: FileNo) -> Result<(), Failed>
     ensures stands { OnOk result ((s t : Shape) (disks : List (List ℕ)) (first last : ℕ) (sector : List ℕ) → Turning s t disks first last sector file.0 (D.world depot.old) → IsTrue (D.world depot.new).tells →
         Standing s ((D.world depot.new).seen file.0 ∷ []) first last file.0 (D.world depot.new) ⊎ Standing t ((D.world depot.new).seen file.0 ∷ []) first last file.0 (D.world depot.new)) }
 
-    ensures same { (D.world depot.new).seen file.0 ≡ (D.world depot.old).seen file.0 }
-    ensures puts { Puts file.0 (D.world depot.old) (D.world depot.new) result }
+    ensures synced { Synced file.0 (D.world depot.old) (D.world depot.new) result }
 {
     sync(depot, file)
 }

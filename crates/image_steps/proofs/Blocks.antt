@@ -31,6 +31,18 @@ module _ (s : Shape) (some : 0 < s.sectors) (role : ℕ → Use) (old new : List
         inr (here, c.is ∙ ap (λ (i : ℕ). each s * i + c.slot) index, subst (λ (b : ℕ). IsBlock s old i0 b) here (subst (λ (x : ℕ). IsBlock s old x c.block) index c.linked))
   ]
 
+  -- where a part of them was written, the others are the same
+  pub counted_out : (low n : ℕ) → Spares (place s q + 2 * low) (2 * n) old new → (k many : ℕ) → IsCounted s old k many → (k < each s * i0 + low) ⊎ (each s * i0 + low + n ≤ k) → IsCounted s new k many
+  counted_out low n narrow k many c out = counted_on s some role old new lies (Of (Block i0)) block_within (frame.block_on s some role old new lies (Of (Block i0)) block_within (quiet_counts (Of (Block i0)) tt)) k many c
+      (⊎_elim
+      (λ (same : u16_at new (place s c.block + 2 * c.slot) ≡ many). same)
+      (λ (here : (c.block ≡ q) × (k ≡ each s * i0 + c.slot) × IsBlock s old i0 q).
+      let at : place s c.block + 2 * c.slot ≡ place s q + 2 * c.slot = ap (λ (b : ℕ). place s b + 2 * c.slot) here.0 in
+      let is : k ≡ each s * i0 + c.slot = here.1 in
+      half_spared (place s q + 2 * low) (2 * n) old new (place s c.block + 2 * c.slot) narrow
+      (⊎_elim (λ (before : k < each s * i0 + low). inl (omega (arith, before, is, at))) (λ (past : each s * i0 + low + n ≤ k). inr (omega (arith, past, is, at))) out) ∙ c.count)
+      (count_where k many c))
+
   pub counts_keep : ((t : ℕ) → t < each s → IsBlock s old i0 q → IsTaken (role (each s * i0 + t)) → 0 < u16_at old (place s q + 2 * t) → 0 < u16_at new (place s q + 2 * t))
       → ((t : ℕ) → t < each s → role (each s * i0 + t) ≡ Ready → u16_at old (place s q + 2 * t) ≡ 1 → u16_at new (place s q + 2 * t) ≡ 1) → Lies s role new
   counts_keep above ones =

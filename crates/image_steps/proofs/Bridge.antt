@@ -332,8 +332,8 @@ module _ (s : Shape) (file : List ℕ) (is : IsHeaded s file) (rows : (i : ℕ) 
 
 -- ---- a file that passes an opening's rules, without bitmaps, is one that an opening finds
 
-pub found_opened : (s : Shape) (next : ℕ) → IsShape s → ((k : ℕ) → s.owner k ≡ None) → TablesPass s.base → IsFreeFrom s.base next → IsOpened s next s.base
-found_opened s next shape none pass free =
+pub found_opened : (s : Shape) (next : ℕ) → IsShape s → ((k : ℕ) → s.owner k ≡ None) → TablesPass s.base → ((a : disks.Who) (k : ℕ) → disks.Refers s.base a k → k < next) → length s.base ≤ place_of (bits_of s.base) next → IsOpened s next s.base
+found_opened s next shape none pass low end =
     let file = s.base in
     let is = headed s file shape refl in
     let bits = bits_of file in
@@ -355,7 +355,11 @@ found_opened s next shape none pass free =
         tables = λ i inside. plain_table s is.some bits is.cluster (u64_at file (s.l1 + 8 * i)) (rows i inside);
         entries = λ i q j linked j_in. plain_guest s is.some bits is.cluster (u64_at file (place s q + 8 * j)) (slots i q j linked j_in);
       };
-      past = λ k many c more. elim (cases_lt k next) [ inl low ↦ low | inr from ↦ absurd (omega (arith, free.uncounted k from, count_found s file is k many c, more)) ];
-      end = omega (arith, free.past, place_is s is.some bits is.cluster next);
+      below = λ a k x. let r = back_of s file is rows slots none a k x in low r.0 k r.1;
+      end = omega (arith, end, place_is s is.some bits is.cluster next);
       fixed = λ k held i low high. refl;
     }
+
+-- where nothing is counted nothing is referred to
+pub free_below : (file : List ℕ) (next : ℕ) → TablesPass file → IsFreeFrom file next → (a : disks.Who) (k : ℕ) → disks.Refers file a k → k < next
+free_below file next pass free a k refers = elim (cases_lt k next) [ inl low ↦ low | inr from ↦ absurd (omega (arith, free.uncounted k from, pass.counted.counted a k refers)) ]

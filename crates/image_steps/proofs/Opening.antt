@@ -165,6 +165,13 @@ module _ (s : Shape) (some : 0 < s.sectors) (file : List ℕ) (forms : Forms s f
 -- ---- the roles of a file as an opening finds it
 
 module _ (s : Shape) (next : ℕ) (file : List ℕ) (is : IsOpened s next file) where
+  -- what is referred to lies in it
+  abbrev pub IsReaching : List ℕ → Type 0
+  IsReaching c = (who : Who) (k : ℕ) → Refers s file who k → place s k + size s ≤ length c
+
+  pub reaching : (c : List ℕ) → place s next ≤ length c → IsReaching c
+  reaching c long who k refers = omega (arith, long, place_next s k, place_more s (k + 1) next (omega (arith, is.below who k refers)))
+
   unclaimed : (k : ℕ) → Use
   unclaimed k = ⊎_elim (λ old. Free) (λ new. Fresh) (cases_lt k next)
 
@@ -233,9 +240,9 @@ module _ (s : Shape) (next : ℕ) (file : List ℕ) (is : IsOpened s next file) 
       (unclaimed_says k))
       (role_says k)
 
-  -- what is counted is before the next
+  -- what is referred to is before the next
   pub below_next : (who : Who) (k : ℕ) → Refers s file who k → k < next
-  below_next who k refers = let c = is.counted.counted who k refers in is.past k c.0 c.2 c.1
+  below_next = is.below
 
   unclaimed_fresh : (k : ℕ) → next ≤ k → unclaimed k ≡ Fresh
   unfolding unclaimed
@@ -253,8 +260,8 @@ module _ (s : Shape) (next : ℕ) (file : List ℕ) (is : IsOpened s next file) 
       let second : IsBlock s file i b = role_back (Block i) b y in
       place_same s a b is.shape.some (sym first.at ∙ second.at)
 
-  -- in each file with these bytes that is long enough
-  pub opened_lies : (c : List ℕ) → IsLonger file c → place s next ≤ length c → Lies s role_at c
+  -- in each file with these bytes that has what is referred to
+  pub opened_lies : (c : List ℕ) → IsLonger file c → IsReaching c → Lies s role_at c
   opened_lies c longer long = record {
     refs = λ who k refers. role_of who k (same_refers s c file (λ i. sym (longer.bytes i)) who k refers);
     used = λ k taken blocks. ⊎_elim
@@ -265,7 +272,7 @@ module _ (s : Shape) (next : ℕ) (file : List ℕ) (is : IsOpened s next file) 
           some = n.1;
           counted = same_counted s file c longer.bytes k n.0 n.2;
           below = is.counted.below claim.0 k claim.1;
-          inside = omega (arith, long, place_next s k, place_more s (k + 1) next (omega (arith, below_next claim.0 k claim.1)));
+          inside = long claim.0 k claim.1;
         })
         (λ (none : (role_at k ≡ unclaimed k) × ((who : Who) → Refers s file who k → ⊥)). ⊎_elim
         (λ (free : unclaimed k ≡ Free). absurd (subst IsTaken (none.0 ∙ free) taken))
@@ -302,7 +309,7 @@ module _ (s : Shape) (next : ℕ) (file : List ℕ) (is : IsOpened s next file) 
           (unclaimed_says k))
           (role_says k)
 
-  pub opened_good : (c : List ℕ) → IsLonger file c → place s next ≤ length c → IsGood s role_at (file ∷ []) c
+  pub opened_good : (c : List ℕ) → IsLonger file c → IsReaching c → IsGood s role_at (file ∷ []) c
   opened_good c longer long = record {
     lies = opened_lies c longer long;
     forms = same_forms s file c longer.bytes is.forms;

@@ -1,21 +1,21 @@
 -- Calls on counts.
 use Rattle.std.proofs.Common.{◌≡◌, ◌≢◌, ◌⊎◌, inl, inr, ⊎_elim, ℕ, ◌+◌, ◌-◌, ◌*◌, ◌/◌, ◌<◌, ◌≤◌, IsTrue, Bool, List, [], ◌∷◌, length, Result, Ok, Err, IsErr, OnOk, refl, sym, ◌∙◌, ap, subst, arith}
 use Rattle.std.proofs.lemmas.Bool.{cases_eq, cases_lt}
-use Rattle.std.specs.Int.{from_be_bytes, w64}
-use Rattle.disk_model.specs.Files.{u64_at, overlay, IsTorn}
+use Rattle.std.specs.Int.{from_be_bytes, w16, w64}
+use Rattle.disk_model.specs.Files.{u16_at, u64_at, overlay, IsTorn}
 use Rattle.disk_model.specs.World.{World, Parts, Runs, writes_of, IsSound, Writes, HasWritten, Syncs, HasSynced, EachSince, Leads, Holds}
-use Rattle.disk_model.proofs.Laws.{write_leads, sector_leads, sync_leads, synced_exact, lead_on, lead_from, run_on, since_on, told_at, number-overlay_same, one_sector_write}
+use Rattle.disk_model.proofs.Laws.{write_leads, sector_leads, sync_leads, synced_exact, lead_on, lead_from, run_on, since_on, told_at, number-overlay_same, number-overlay_part, one_sector_write}
 use Rattle.image_model.specs.Clusters.{Shape, size, each, place, Who, Block, IsBlock, Use, Free, Fresh, Ready, Of, IsTaken, IsShape, IsGood, IsSafe, IsOwn, Standing, IsStanding, Moves, IsOwnCount}
 use Rattle.image_model.specs.Calls.{IsToppingUp, IsAddingBlock, IsSettling, AreExactly, Keeps, Resting, Rests, last_after}
 use Rattle.image_steps.proofs.Places.{Spares, Elsewhere, spares_more, place_next, torn_spares, within, place_same, place_some, sector_at}
 use Rattle.image_steps.proofs.Frame as frame
 use Rattle.image_steps.proofs.Links.{keeps_on, keeps_by}
 use Rattle.image_steps.proofs.Good.{safe, recast, is_shown}
-use Rattle.image_model.specs.Calls.{SameGuest, LeavesGuest}
+use Rattle.image_model.specs.Calls.{SameGuest, LeavesGuest, HasCounts, LeavesCounts}
 use Rattle.image_steps.proofs.Naming.{quiet_alike, alike_on, alike_self}
 use Rattle.image_steps.proofs.Calls.{count_inside}
 use Rattle.image_steps.proofs.Standing.{put, put_here, put_other, Places, AreLinked, places, same_index, same_own, still_linked, holds_of, stand_on, leads_stand}
-use Rattle.image_steps.proofs.Blocks.{topped_counts, topped_growth, topped_up, end_low, end_high, block_row_keeps, block_row_alike, block_growth, block_count, IsPrepared, prepared, block_linked, own_change, settled_good, keep, kept_taken, kept_or, kept_fresh, kept_block, rested}
+use Rattle.image_steps.proofs.Blocks.{topped_counts, topped_growth, topped_up, end_low, end_high, block_row_keeps, block_row_alike, block_growth, block_count, IsPrepared, prepared, block_linked, own_change, counted_out, settled_good, keep, kept_taken, kept_or, kept_fresh, kept_block, rested}
 
 -- a write that keeps what is good
 pub good_leads : (s : Shape) (role : ℕ → Use) (disks : List (List ℕ)) {f at : ℕ} {bytes : List ℕ} {a b : World} → IsSound a → IsSound b → Writes f at bytes a b
@@ -508,6 +508,31 @@ module _ {s : Shape} {disks : List (List ℕ)} {taken : ℕ → Bool} {last q i 
 
   around : Spares (place s q) (size s) (a.seen f) (b.seen f)
   around = spares_more spot (length counts) (place s q) (size s) (a.seen f) (b.seen f) (omega (arith, is.spot_is)) (omega (arith, is.spot_is, is.long, is.within)) (torn_spares spot counts (a.seen f) (b.seen f) (call.torn told))
+
+  around_block : Elsewhere s rests.role (Of (Block i)) (a.seen f) (b.seen f)
+  around_block = within s rests.role (Of (Block i)) q (a.seen f) (b.seen f) q_role around
+
+  pub settled_leaves : LeavesGuest s (a.seen f) (b.seen f)
+  settled_leaves = record {
+    keeps = keeps_by s shape.some rests.role (a.seen f) (b.seen f) rests.seen.lies (Of (Block i)) around_block (λ e. cc) (λ e. cc);
+    alike = quiet_alike s shape.some rests.role (a.seen f) (b.seen f) rests.seen.lies rests.seen.forms (Of (Block i)) around_block (λ e. cc) (λ x e. cc) (λ x y e. cc);
+  }
+
+  pub settled_others : LeavesCounts s (each s * i + low) n (a.seen f) (b.seen f)
+  settled_others = counted_out s shape.some rests.role (a.seen f) (b.seen f) rests.seen.lies q i q_role around low n
+      (spares_more spot (length counts) (place s q + 2 * low) (2 * n) (a.seen f) (b.seen f) (omega (arith, is.spot_is)) (omega (arith, is.spot_is, is.long)) (torn_spares spot counts (a.seen f) (b.seen f) (call.torn told)))
+
+  pub settled_counts : HasWritten f spot counts a b → HasCounts s (each s * i + low) n counts (b.seen f)
+  settled_counts wrote t t_in = record {
+    index = i;
+    slot = low + t;
+    block = q;
+    is = omega arith;
+    inside = omega (arith, is.within, t_in);
+    linked = settled_leaves.keeps.blocks i q block;
+    count = let at : place s q + 2 * (low + t) ≡ spot + 2 * t = omega (arith, is.spot_is) in
+        ap (λ (p : ℕ). u16_at (b.seen f) p) at ∙ ap (λ (c : List ℕ). u16_at c (spot + 2 * t)) (wrote.seen told) ∙ number-overlay_part w16 (a.seen f) spot counts (2 * t) (omega (arith, is.long, t_in));
+  }
 
   pub settled : EachSince b a.now f (IsSafe s disks) × Resting s disks taken last f b
   settled = (

@@ -5,7 +5,7 @@ use Rattle.disk_model.specs.World.{World, Parts, Runs, IsSound, Writes, HasWritt
 use Rattle.disk_model.proofs.Laws.{write_leads, sync_leads, lead_on, synced_exact, told_at, length-overlay}
 use Rattle.image_model.specs.Clusters.{Shape, place, IsGood, IsSafe, Standing, IsStanding, Moves, Block}
 use Rattle.image_model.specs.Calls.{IsOpened, IsReach, Beginning, Begins}
-use Rattle.image_steps.proofs.Opening.{role_at, role_back, same_block, fresh_from, one_block, opened_good, opened_safe, reaches}
+use Rattle.image_steps.proofs.Opening.{role_at, role_back, same_block, fresh_from, one_block, opened_good, opened_safe, reaches, IsReaching, reaching}
 
 pub itself : (s : Shape) (next : ℕ) (file : List ℕ) → length file ≤ place s next → IsReach s next file file
 itself s next file end = record { is = record { longer = omega arith; bytes = λ i. refl }; end = end }
@@ -18,8 +18,8 @@ begins_here {s} {next} {f} {w} is same = record {
   now = λ c left. subst (IsReach s next (w.seen f)) (sym (same c left)) (itself s next (w.seen f) is.end);
 }
 
--- it reaches to its last cluster's end
-pub begun_stands : {s : Shape} {next f : ℕ} {file : List ℕ} {w : World} → Beginning s next file f w → place s next ≤ length (w.seen f) → EachNow w f (λ c. c ≡ w.seen f) → Standing s (file ∷ []) next next f w
+-- what is referred to lies in it
+pub begun_stands : {s : Shape} {next f : ℕ} {file : List ℕ} {w : World} (begins : Beginning s next file f w) → IsReaching s next file begins.opened (w.seen f) → EachNow w f (λ c. c ≡ w.seen f) → Standing s (file ∷ []) next next f w
 begun_stands {s} {next} {f} {file} {w} begins long same = record {
   role = role_at s next file begins.opened;
   order = omega arith;
@@ -70,7 +70,7 @@ module _ {s : Shape} {next finish f : ℕ} {file : List ℕ} {a b : World} (ends
       synced_leads.since holds,
       begun_stands begins_d
           (let at : length (d.seen f) ≡ length (overlay (a.seen f) finish (0 ∷ [])) = ap length (syncs.seen ∙ wrote.seen told) in
-          omega (arith, at, length-overlay (a.seen f) finish (0 ∷ []) (omega arith), ends))
+          reaching s next file begins.opened (d.seen f) (omega (arith, at, length-overlay (a.seen f) finish (0 ∷ []) (omega arith), ends)))
           (synced_exact sound_b syncs synced),
     )
 
