@@ -2,59 +2,11 @@
 
 ghost use Rattle.std.specs.Prelude.{◌≡◌, ◌⊎◌, ℕ, List, ◌∷◌, ◌+◌, ◌*◌, ◌^◌, ◌<◌, ◌≤◌, length, OnOk, IsTrue};
 ghost use Rattle.file_device.specs.Calls.{Puts};
-ghost use Rattle.image_model.specs.Clusters.{Shape, per, place, host, guest, word_of, ShowsAs, IsShape, IsTable, IsSafe, IsStanding, Moves, Reads};
-ghost use Rattle.image_model.specs.Calls.{Told, IsSlot, IsIn, IsOpen, IsOnly, IsData, IsPut, IsTablePut, IsFirstPut, Keeps, Shows, SameBut, IsPartly, LeavesGuest, LeavesOthers, IsNewTable};
+ghost use Rattle.image_model.specs.Clusters.{Shape, per, guest, word_of, ShowsAs, IsShape, IsTable, IsSafe, IsStanding, Moves, Reads};
+ghost use Rattle.image_model.specs.Calls.{Told, IsSlot, IsIn, IsData, IsTablePut, Shows, IsPartly, LeavesGuest, LeavesOthers, IsNewTable};
 
 use disk_model::{Depot, Failed, FileNo};
 use file_device::write;
-
-/// Writes data into a ready cluster, and names it in the place of a hole.
-pub fn write_hole<D: Depot>(
-    depot: &mut D,
-    file: FileNo,
-    at: u64,
-    bytes: &[u8],
-    slot: u64,
-    entry: u64,
-) -> Result<(), Failed>
-    requires given { file.0 < (D.world depot.old).given }
-    requires end { slot + 8 ≤ 2 ^ 62 }
-    requires data_end { at + length bytes.now ≤ 2 ^ 62 }
-
-    ensures moves { (s : Shape) (disks : List (List ℕ)) (first last k q i j : ℕ) → IsPut s first last k q i j at (length bytes.now) slot entry file.0 (D.world depot.old) →
-        Moves file.0 (IsSafe s ((D.world depot.new).seen file.0 ∷ disks)) (IsStanding s disks first last file.0) (IsStanding s ((D.world depot.new).seen file.0 ∷ disks) (k + 1) last file.0) (D.world depot.old) (D.world depot.new) }
-
-    // Whatever it answers, no other cluster of the guest changes.
-    ensures others { (s : Shape) (disks : List (List ℕ)) (first last k q i j : ℕ) → IsPut s first last k q i j at (length bytes.now) slot entry file.0 (D.world depot.old) →
-        IsStanding s disks first last file.0 (D.world depot.old) → IsTrue (D.world depot.old).tells → IsOnly s i j ((D.world depot.old).seen file.0) ((D.world depot.new).seen file.0) }
-
-    ensures keeps { (s : Shape) (disks : List (List ℕ)) (first last k q i j : ℕ) → IsPut s first last k q i j at (length bytes.now) slot entry file.0 (D.world depot.old) →
-        IsStanding s disks first last file.0 (D.world depot.old) → IsTrue (D.world depot.old).tells → Keeps s ((D.world depot.old).seen file.0) ((D.world depot.new).seen file.0) }
-
-    // Whatever it answers, the entry is the hole that it was, or the data shows.
-    ensures either { (s : Shape) (disks : List (List ℕ)) (first last k q i j : ℕ) → IsPut s first last k q i j at (length bytes.now) slot entry file.0 (D.world depot.old) →
-        IsStanding s disks first last file.0 (D.world depot.old) → IsTrue (D.world depot.old).tells → IsOpen s q i j ((D.world depot.new).seen file.0) ⊎ Shows s i j k at bytes.now (λ t. 0) ((D.world depot.new).seen file.0) }
-
-    ensures linked { OnOk result ((s : Shape) (disks : List (List ℕ)) (first last k q i j : ℕ) → IsPut s first last k q i j at (length bytes.now) slot entry file.0 (D.world depot.old) →
-        IsStanding s disks first last file.0 (D.world depot.old) → IsTrue (D.world depot.old).tells → IsTable s ((D.world depot.new).seen file.0) i q × (host s ((D.world depot.new).seen file.0) i j ≡ place s k)) }
-
-    // The data is there, and zeros around it.
-    ensures shows { OnOk result ((s : Shape) (disks : List (List ℕ)) (first last k q i j : ℕ) → IsPut s first last k q i j at (length bytes.now) slot entry file.0 (D.world depot.old) →
-        IsStanding s disks first last file.0 (D.world depot.old) → IsTrue (D.world depot.old).tells → Shows s i j k at bytes.now (λ t. 0) ((D.world depot.new).seen file.0)) }
-
-    // Whatever it answers, no other entry of the guest changes.
-    ensures but { (s : Shape) (disks : List (List ℕ)) (first last k q i j : ℕ) → IsPut s first last k q i j at (length bytes.now) slot entry file.0 (D.world depot.old) →
-        IsStanding s disks first last file.0 (D.world depot.old) → IsTrue (D.world depot.old).tells → SameBut s i j ((D.world depot.old).seen file.0) ((D.world depot.new).seen file.0) }
-
-    // Whatever it answers, the entry is the word that it was, or the data shows.
-    ensures whether { (s : Shape) (disks : List (List ℕ)) (first last k q i j : ℕ) → IsPut s first last k q i j at (length bytes.now) slot entry file.0 (D.world depot.old) →
-        IsStanding s disks first last file.0 (D.world depot.old) → IsTrue (D.world depot.old).tells → (word_of s ((D.world depot.new).seen file.0) i j ≡ word_of s ((D.world depot.old).seen file.0) i j) ⊎ Shows s i j k at bytes.now (λ t. 0) ((D.world depot.new).seen file.0) }
-
-    ensures puts { Puts file.0 (D.world depot.old) (D.world depot.new) result }
-{
-    write(depot, file, at, bytes)?;
-    write(depot, file, slot, &entry.to_be_bytes())
-}
 
 /// Makes an entry a hole.
 pub fn clear_entry<D: Depot>(depot: &mut D, file: FileNo, slot: u64) -> Result<(), Failed>
@@ -125,32 +77,4 @@ pub fn add_table<D: Depot>(depot: &mut D, file: FileNo, slot: u64, entry: u64) -
     ensures puts { Puts file.0 (D.world depot.old) (D.world depot.new) result }
 {
     write(depot, file, slot, &entry.to_be_bytes())
-}
-
-/// Names a ready cluster as a second-level table, writes data into another, and names that in the table.
-pub fn write_first<D: Depot>(
-    depot: &mut D,
-    file: FileNo,
-    row: u64,
-    link: u64,
-    at: u64,
-    bytes: &[u8],
-    slot: u64,
-    entry: u64,
-) -> Result<(), Failed>
-    requires given { file.0 < (D.world depot.old).given }
-    requires row_end { row + 8 ≤ 2 ^ 62 }
-    requires end { slot + 8 ≤ 2 ^ 62 }
-    requires data_end { at + length bytes.now ≤ 2 ^ 62 }
-
-    ensures moves { (s : Shape) (disks : List (List ℕ)) (first last t k i j : ℕ) → IsFirstPut s first last t k i j row link at (length bytes.now) slot entry file.0 (D.world depot.old) →
-        Moves file.0 (IsSafe s ((D.world depot.new).seen file.0 ∷ disks)) (IsStanding s disks first last file.0) (IsStanding s ((D.world depot.new).seen file.0 ∷ disks) (k + 1) last file.0) (D.world depot.old) (D.world depot.new) }
-
-    ensures shows { OnOk result ((s : Shape) (disks : List (List ℕ)) (first last t k i j : ℕ) → IsFirstPut s first last t k i j row link at (length bytes.now) slot entry file.0 (D.world depot.old) →
-        IsStanding s disks first last file.0 (D.world depot.old) → IsTrue (D.world depot.old).tells → Shows s i j k at bytes.now (λ u. 0) ((D.world depot.new).seen file.0)) }
-
-    ensures puts { Puts file.0 (D.world depot.old) (D.world depot.new) result }
-{
-    add_table(depot, file, row, link)?;
-    write_hole(depot, file, at, bytes, slot, entry)
 }

@@ -144,13 +144,13 @@ place_small s k shape below =
     let same : 512 * (s.sectors * k) ≡ k * (512 * s.sectors) = grind arith in
     omega (arith, most, same, less)
 
-pub record IsLinked (s : Shape) (w k : ℕ) : Type 0 where
+pub record IsLinkWord (s : Shape) (w k : ℕ) : Type 0 where
   pub stored : stored w ≡ place s k
   pub offset : offset w ≡ place s k
   pub of_guest : IsGuestWord s w
   pub of_table : IsTableWord s w
 
-pub link_word : (s : Shape) (k w : ℕ) → IsShape s → 0 < k → k < s.reach → IsLink s w k → IsLinked s w k
+pub link_word : (s : Shape) (k w : ℕ) → IsShape s → 0 < k → k < s.reach → IsLink s w k → IsLinkWord s w k
 unfolding place offset stored
 link_word s k w shape some below is =
     let less : place s k < 2 ^ 56 = place_small s k shape below in
@@ -175,43 +175,6 @@ torn_byte at bytes old new i torn = elim (cases_lt i (length new)) [
 module _ (s : Shape) (shape : IsShape s) (disks : List (List ℕ)) (k i0 j0 at : ℕ) (bytes : List ℕ) (low : place s k ≤ at) (high : at + length bytes ≤ place s k + size s) where
   pub data_within : (old new : List ℕ) → IsTorn at bytes old new → Spares (place s k) (size s) old new
   data_within old new torn = spares_more at (length bytes) (place s k) (size s) old new low high (torn_spares at bytes old new torn)
-
-  -- into a ready cluster, which its guest takes
-  module _ (role role_on : ℕ → Use) (taking : IsTaking role role_on k (Guest i0 j0)) where
-    ready_elsewhere : (old new : List ℕ) → IsTorn at bytes old new → Elsewhere s role Ready old new
-    ready_elsewhere old new torn = within s role Ready k old new taking.ready (data_within old new torn)
-
-    pub fresh : (now old new : List ℕ) → IsGood s role disks old → IsTorn at bytes old new → IsMixed old now new → IsGood s role_on disks new × IsFilled s k now new
-    fresh now old new good torn mixed =
-        let spares = data_within old new torn in
-        let elsewhere = ready_elsewhere old new torn in
-        let lies : Lies s role_on old = take s role role_on k (Guest i0 j0) old tt taking good.lies in
-        let on = within s role_on (Of (Guest i0 j0)) k old new taking.taken spares in
-        let long = (good.lies.used k (subst IsTaken (sym taking.ready) tt) (λ b e. absurd (ready_not (Block b) e))).inside in (
-          record {
-            lies = steps.data_keeps s shape.some role_on old new lies (Of (Guest i0 j0)) on tt (λ i e. cc) (steps.zeros_on s shape.some role_on old new lies (Of (Guest i0 j0)) on (λ x. x));
-            forms = steps.quiet_forms s shape.some role old new good.lies Ready elsewhere tt good.forms;
-            kept = kept.outer_kept s shape.some role old new good.lies good.forms Ready elsewhere (λ e. cc) (λ i e. cc) (λ i j e. cc) disks good.kept;
-          },
-          λ o o_in. ⊎_elim
-              (λ (as_old : AgreesAt (s.sectors * k + o) new old). inl (λ t from to.
-              as_old (place s k + t) (omega (arith, sector_at s k o)) (omega (arith, sector_at s k o)) (omega (arith, long, spares.longer))
-              ∙ good.lies.zeros k (subst IsBlank (sym taking.ready) tt) (place s k + t) (omega arith) (omega arith)))
-              (λ (as_now : AgreesAt (s.sectors * k + o) new now). inr as_now)
-              (mixed (s.sectors * k + o)),
-        )
-      where
-        ready_not : (who : Who) → role k ≡ Of who → ⊥
-        ready_not who e = let r = taking.ready in cc
-
-    pub fresh_table : (i q : ℕ) (old new : List ℕ) → Lies s role old → IsTorn at bytes old new → IsTable s old i q → IsTable s new i q
-    fresh_table i q old new lies torn = frame.table_on s shape.some role old new lies Ready (ready_elsewhere old new torn) (λ e. cc) i q
-
-    pub fresh_word : (i : ℕ) (old new : List ℕ) → Lies s role old → IsTorn at bytes old new → i < s.tables → u64_at new (s.l1 + 8 * i) ≡ u64_at old (s.l1 + 8 * i)
-    fresh_word i old new lies torn = frame.l1_word s shape.some role old new lies Ready (ready_elsewhere old new torn) (λ e. cc) i
-
-    pub fresh_host : (i j : ℕ) (old new : List ℕ) → IsGood s role disks old → IsTorn at bytes old new → i < s.tables → j < per s → host s new i j ≡ host s old i j
-    fresh_host i j old new good torn = kept.host_same s shape.some role old new good.lies good.forms Ready (ready_elsewhere old new torn) (λ e. cc) (λ i e. cc) i j
 
   -- in place
   module _ (role : ℕ → Use) (taken : role k ≡ Of (Guest i0 j0)) where
@@ -259,44 +222,6 @@ module _ (s : Shape) (shape : IsShape s) (disks : List (List ℕ)) (role : ℕ �
             (is_shown s disks (overlay before slot bytes)) (more_good s role disks (overlay before slot bytes) old good).kept;
       }
 
-  -- it becomes Data
-  module _ (k : ℕ) (some : 0 < k) (is_guest : role k ≡ Of (Guest i0 j0)) (link : IsLink s (from_be_bytes w64 bytes) k) where
-    differ : k ≢ q
-    differ same = let e : role k ≡ role q = ap role same in cc
-
-    not_block_here : (b : ℕ) → role k ≡ Of (Block b) → ⊥
-    not_block_here b e = cc
-
-    pub used_here : (old : List ℕ) → IsGood s role disks old → IsUsed s old k
-    used_here old good = good.lies.used k (taken_of role k (Guest i0 j0) is_guest) (λ b e. absurd (not_block_here b e))
-
-    pub linked : (before old : List ℕ) → IsGood s role disks before → IsTable s before i0 q → host s before i0 j0 ≡ 0 → IsGood s role disks old → IsFilled s k before old → IsGood s role (overlay before slot bytes ∷ disks) (overlay old slot bytes)
-    linked before old is table none good filled =
-        let now = overlay before slot bytes in
-        let says = link_word s k (from_be_bytes w64 bytes) shape some (used_here old good).below link in
-        let at : offset (u64_at (overlay old slot bytes) slot) ≡ place s k = ap offset (word_is old) ∙ says.offset in
-        let around = steps.around s shape.some role before now is.lies q i0 j0 is_table j_in (spared before) in
-        record {
-          lies = steps.entry_keeps s shape.some role old (overlay old slot bytes) good.lies q i0 j0 is_table j_in (spared old)
-              (λ m some_m at_m. ap role (place_same s m k shape.some (sym at_m ∙ at)) ∙ is_guest);
-          forms = steps.entry_forms s shape.some role old (overlay old slot bytes) good.lies q i0 j0 is_table j_in (spared old) good.forms (subst (IsGuestWord s) (sym (word_is old)) says.of_guest);
-          kept = kept.link_kept s shape.some role old (overlay old slot bytes) good.lies good.forms q i0 j0 is_table j_in (spared old) (now ∷ disks) before now k some differ i_in
-              (ap stored (word_is old) ∙ says.stored) (used_here old good).inside
-              (λ o o_in. ⊎_elim
-              (λ (zeros : (t : ℕ) → 512 * o ≤ t → t < 512 * o + 512 → byte old (place s k + t) ≡ 0). inl zeros)
-              (λ (agrees : AgreesAt (s.sectors * k + o) old before). inr (λ b low high b_in. agrees b low high b_in
-              ∙ sym (around.bytes b (⊎_elim (λ front. inl (omega (arith, sector_at s k o, o_in))) (λ behind. inr (omega (arith, sector_at s k o))) (place_apart s k q differ)))))
-              (filled o o_in))
-              none
-              (kept.new_host s shape.some role before now is.lies is.forms q i0 j0 is_table j_in (spared before) table ∙ ap stored (word_is before) ∙ says.stored)
-              (more_good s role disks now before is).kept (is_shown s disks now) (more_good s role disks now old good).kept;
-        }
-
-    pub linked_host : (before : List ℕ) → IsGood s role disks before → IsTable s before i0 q → host s (overlay before slot bytes) i0 j0 ≡ place s k
-    linked_host before is table =
-        kept.new_host s shape.some role before (overlay before slot bytes) is.lies is.forms q i0 j0 is_table j_in (spared before) table ∙ ap stored (word_is before)
-        ∙ (link_word s k (from_be_bytes w64 bytes) shape some (used_here before is).below link).stored
-
 -- ---- an entry of the first level
 
 module _ (s : Shape) (shape : IsShape s) (disks : List (List ℕ)) (role : ℕ → Use) (table i0 : ℕ) (some : 0 < table) (i_in : i0 < s.tables) (is_table : role table ≡ Of (Table i0)) (bytes : List ℕ) (eight : length bytes ≡ 8) (link : IsLink s (from_be_bytes w64 bytes) table) where
@@ -312,7 +237,7 @@ module _ (s : Shape) (shape : IsShape s) (disks : List (List ℕ)) (role : ℕ �
       not_block : (b : ℕ) → role table ≡ Of (Block b) → ⊥
       not_block b e = cc
 
-  row_says : (old : List ℕ) → IsGood s role disks old → IsLinked s (from_be_bytes w64 bytes) table
+  row_says : (old : List ℕ) → IsGood s role disks old → IsLinkWord s (from_be_bytes w64 bytes) table
   row_says old good = link_word s table (from_be_bytes w64 bytes) shape some (table_below old good) link
 
   pub row_set : (old : List ℕ) → IsGood s role disks old → offset (u64_at (overlay old row bytes) row) ≡ place s table

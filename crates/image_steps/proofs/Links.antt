@@ -4,7 +4,7 @@ use Rattle.std.proofs.lemmas.Bool.{cases_eq, cases_lt}
 use Rattle.disk_model.specs.Files.{u64_at}
 use Rattle.disk_model.specs.World.{World, Parts, Runs}
 use Rattle.image_model.specs.Clusters.{Shape, per, offset, stored, Counts, Tables, Use, Of, Lies}
-use Rattle.image_model.specs.Calls.{IsOpen, IsPut, IsFirstPut, IsTakeable, Keeps, IsNewTable}
+use Rattle.image_model.specs.Calls.{IsOpen, IsTakeable, Keeps, IsNewTable}
 use Rattle.image_steps.proofs.Places.{Spares, Elsewhere, in_row, word_spared, place_some}
 use Rattle.image_steps.proofs.Kept.{stored_none}
 use Rattle.image_steps.proofs.Naming.{host_entry}
@@ -34,16 +34,3 @@ keeps_row s some role old new i0 inside lies none spares = record {
 -- the entries of a new table are holes
 pub new_open : {s : Shape} {t i j word : ℕ} {file : List ℕ} → IsNewTable s t i word file → j < per s → IsOpen s t i j file
 new_open {s} {t} {i} {j} {word} {file} is j_in = record { linked = is.linked; none = host_entry s file i j ∙ ap stored (is.none j j_in) ∙ stored_none }
-
--- data for a table that was just linked
-pub second_put : {parts : Parts} {s : Shape} {first last t k i j row link at long spot entry f : ℕ} {a m : World} → Runs parts a m → IsFirstPut s first last t k i j row link at long spot entry f a
-    → (IsTrue a.tells → IsNewTable s t i link (m.seen f)) → (IsTrue a.tells → Keeps s (a.seen f) (m.seen f)) → IsPut s (t + 1) last k t i j at long spot entry f m
-second_put {parts} {s} {first} {last} {t} {k} {i} {j} {row} {link} {at} {long} {spot} {entry} {f} {a} {m} run is linked keeps = record {
-  shape = is.table.shape;
-  slot = is.slot;
-  inside = is.inside;
-  among = is.among;
-  link = is.link_is;
-  opened = λ told. new_open (linked (subst IsTrue run.goes.tells told)) is.slot.slot;
-  takeable = λ told. let was = subst IsTrue run.goes.tells told in keeps_takeable s (a.seen f) (m.seen f) k (keeps was) (is.takeable was);
-}

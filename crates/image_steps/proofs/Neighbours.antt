@@ -7,10 +7,10 @@ use Rattle.disk_model.proofs.Laws.{IsMixed, mixed_number, number_either, number_
 use Rattle.image_model.specs.Clusters.{Shape, size, per, place, offset, stored, Who, Block, Table, Guest, IsTable, Refers, Use, Free, Fresh, Spare, Ready, Of, IsTaken, IsBlank, IsFixed, SameIn, IsUsed, IsShape, Lies, Forms, IsGuestWord, host, ShowsAs, IsGood, IsFilled}
 use Rattle.image_steps.proofs.Places.{Spares, Elsewhere, torn_spares, spares_more, word_spared, spared_cluster, place_more, place_next, sector_at}
 use Rattle.image_steps.proofs.Steps.{taken_of, data_keeps, quiet_forms, zeros_on}
-use Rattle.image_steps.proofs.Good.{Change, recast, more_good, is_shown, IsLinked, link_word}
+use Rattle.image_steps.proofs.Good.{Change, recast, more_good, is_shown, IsLinkWord, link_word}
 use Rattle.image_steps.proofs.Kept as kept
 use Rattle.image_steps.proofs.Kept.{host_some, both_none, shown, guest_some, guest_none}
-use Rattle.image_model.specs.Runs.{AreLinks, IsInSector}
+use Rattle.image_model.specs.Runs.{AreLinks, IsInSector, AreFilled}
 use Rattle.image_steps.proofs.Rows.{IsSet}
 use Rattle.image_steps.proofs.Rows as rows
 
@@ -56,7 +56,7 @@ unfolding ranged
 ranged_out role k n u x out = by_out role u k n x (where_is k n x) out
 
 -- counted, and no one refers to it
-abbrev IsIdle : Use → Type 0
+abbrev pub IsIdle : Use → Type 0
 IsIdle Free = ⊥
 IsIdle Fresh = ⊥
 IsIdle Spare = Unit {0}
@@ -95,7 +95,7 @@ mild_change s role_on file x (inr is) none used =
     }
 
 -- a range of clusters that no one refers to becomes spare, or guests'
-change_range : (s : Shape) (role role_on : ℕ → Use) (file : List ℕ) (k n : ℕ) → Lies s role file → ((m : ℕ) → m < n → IsIdle (role (k + m))) → ((m : ℕ) → m < n → IsMild (role_on (k + m)))
+pub change_range : (s : Shape) (role role_on : ℕ → Use) (file : List ℕ) (k n : ℕ) → Lies s role file → ((m : ℕ) → m < n → IsIdle (role (k + m))) → ((m : ℕ) → m < n → IsMild (role_on (k + m)))
     → ((x : ℕ) → (x < k) ⊎ (k + n ≤ x) → role_on x ≡ role x) → Lies s role_on file
 change_range s role role_on file k n lies idle mild others = recast s role role_on file lies (λ x. by_place x (where_is k n x))
   where
@@ -127,48 +127,32 @@ range_elsewhere s role u k n at long old new low high is spares = record {
         (λ (past : k + n ≤ x). spares.bytes i (inr (omega (arith, place_more s (k + n) x past, i_low, high))))
         out
 
--- n ready clusters that guests take
-pub record IsTakingRun (role role_on : ℕ → Use) (k n i j : ℕ) : Type 0 where
+-- n ready clusters become spare
+pub record IsSparing (role role_on : ℕ → Use) (k n : ℕ) : Type 0 where
   pub ready : (m : ℕ) → m < n → role (k + m) ≡ Ready
-  pub taken : (m : ℕ) → m < n → role_on (k + m) ≡ Of (Guest i (j + m))
+  pub spare : (m : ℕ) → m < n → role_on (k + m) ≡ Spare
   pub others : (x : ℕ) → (x < k) ⊎ (k + n ≤ x) → role_on x ≡ role x
 
--- each of them is zero, or as another file has it
-abbrev pub AreFilled : Shape → ℕ → ℕ → List ℕ → List ℕ → Type 0
-AreFilled s k n now file = (m : ℕ) → m < n → IsFilled s (k + m) now file
+module _ (s : Shape) (shape : IsShape s) (k n at : ℕ) (bytes : List ℕ) (low : place s k ≤ at) (high : at + length bytes ≤ place s (k + n)) (role role_on : ℕ → Use) (sparing : IsSparing role role_on k n) where
+  pub fill_elsewhere : (old new : List ℕ) → IsTorn at bytes old new → Elsewhere s role Ready old new
+  fill_elsewhere old new torn = range_elsewhere s role Ready k n at (length bytes) old new low high sparing.ready (torn_spares at bytes old new torn)
 
-module _ (s : Shape) (shape : IsShape s) (k n i0 j0 at : ℕ) (bytes : List ℕ) (low : place s k ≤ at) (high : at + length bytes ≤ place s (k + n)) (role role_on : ℕ → Use) (taking : IsTakingRun role role_on k n i0 j0) where
-  pub run_elsewhere : (old new : List ℕ) → IsTorn at bytes old new → Elsewhere s role Ready old new
-  run_elsewhere old new torn = range_elsewhere s role Ready k n at (length bytes) old new low high taking.ready (torn_spares at bytes old new torn)
+  fill_lies : (old new : List ℕ) → Lies s role old → IsTorn at bytes old new → Lies s role_on new
+  fill_lies old new lies torn =
+      let first : Lies s role_on old = change_range s role role_on old k n lies (λ m m_in. subst IsIdle (sym (sparing.ready m m_in)) tt) (λ m m_in. inl (sparing.spare m m_in)) sparing.others in
+      let there : Elsewhere s role_on Spare old new = range_elsewhere s role_on Spare k n at (length bytes) old new low high sparing.spare (torn_spares at bytes old new torn) in
+      data_keeps s shape.some role_on old new first Spare there tt (λ i e. cc) (zeros_on s shape.some role_on old new first Spare there (λ x. x))
 
-  middle : ℕ → Use
-  middle = ranged role k n (λ m. Spare)
-
-  middle_in : (m : ℕ) → m < n → middle (k + m) ≡ Spare
-  unfolding middle
-  middle_in m m_in = ranged_in role k n (λ m. Spare) m m_in
-
-  middle_out : (x : ℕ) → (x < k) ⊎ (k + n ≤ x) → middle x ≡ role x
-  unfolding middle
-  middle_out x out = ranged_out role k n (λ m. Spare) x out
-
-  run_lies : (old new : List ℕ) → Lies s role old → IsTorn at bytes old new → Lies s role_on new
-  run_lies old new lies torn =
-      let first : Lies s middle old = change_range s role middle old k n lies (λ m m_in. subst IsIdle (sym (taking.ready m m_in)) tt) (λ m m_in. inl (middle_in m m_in)) middle_out in
-      let there : Elsewhere s middle Spare old new = range_elsewhere s middle Spare k n at (length bytes) old new low high middle_in (torn_spares at bytes old new torn) in
-      let second : Lies s middle new = data_keeps s shape.some middle old new first Spare there tt (λ i e. cc) (zeros_on s shape.some middle old new first Spare there (λ x. x)) in
-      change_range s middle role_on new k n second (λ m m_in. subst IsIdle (sym (middle_in m m_in)) tt) (λ m m_in. inr (i0, j0 + m, taking.taken m m_in)) (λ x out. taking.others x out ∙ sym (middle_out x out))
-
-  pub run_fresh : (disks : List (List ℕ)) (now old new : List ℕ) → IsGood s role disks old → IsTorn at bytes old new → IsMixed old now new → IsGood s role_on disks new × AreFilled s k n now new
-  run_fresh disks now old new good torn mixed =
-      let elsewhere = run_elsewhere old new torn in (
+  pub fill_good : (disks : List (List ℕ)) (now old new : List ℕ) → IsGood s role disks old → IsTorn at bytes old new → IsMixed old now new → IsGood s role_on disks new × AreFilled s k n now new
+  fill_good disks now old new good torn mixed =
+      let elsewhere = fill_elsewhere old new torn in (
         record {
-          lies = run_lies old new good.lies torn;
+          lies = fill_lies old new good.lies torn;
           forms = quiet_forms s shape.some role old new good.lies Ready elsewhere tt good.forms;
           kept = kept.outer_kept s shape.some role old new good.lies good.forms Ready elsewhere (λ e. cc) (λ i e. cc) (λ i j e. cc) disks good.kept;
         },
         λ m m_in o o_in.
-            let ready = taking.ready m m_in in
+            let ready = sparing.ready m m_in in
             let long = (good.lies.used (k + m) (subst IsTaken (sym ready) tt) (λ b e. absurd (ready_not (role (k + m)) (Block b) ready e))).inside in
             ⊎_elim
             (λ (as_old : AgreesAt (s.sectors * (k + m) + o) new old). inl (λ t from to.
@@ -209,7 +193,7 @@ module _ (s : Shape) (shape : IsShape s) (role : ℕ → Use) (k n q i0 j0 : ℕ
       not_block : (u : Use) (b y : ℕ) → u ≡ Of (Guest i0 y) → u ≡ Of (Block b) → ⊥
       not_block u b y x z = cc
 
-  pub said : (old : List ℕ) → Lies s role old → (m : ℕ) → m < n → IsLinked s (u64_at words (8 * m)) (k + m)
+  pub said : (old : List ℕ) → Lies s role old → (m : ℕ) → m < n → IsLinkWord s (u64_at words (8 * m)) (k + m)
   said old lies m m_in = link_word s (k + m) (u64_at words (8 * m)) shape (omega (arith, some)) (used_at old lies m m_in).below (links.link m m_in)
 
   pub part_is : (old : List ℕ) (m j : ℕ) → m < n → j ≡ j0 + m → u64_at (overlay old spot words) (place s q + 8 * j) ≡ u64_at words (8 * m)

@@ -551,15 +551,6 @@ module _ {s : Shape} {disks : List (List ℕ)} {taken : ℕ → Bool} {last q i 
     },
   )
 
--- what is shown where files are told
-pub rests_of : {parts : Parts} {s : Shape} {disks disks_on : List (List ℕ)} {taken taken_on : ℕ → Bool} {last f : ℕ} {a b : World} (R : List ℕ → Type 0) → Runs parts a b → IsSound b
-    → (IsTrue a.tells → Resting s disks taken last f a → EachSince b a.now f R × Resting s disks_on taken_on last f b)
-    → Moves f R (Rests s disks taken last f) (Rests s disks_on taken_on last f) a b
-rests_of {parts} {s} {disks} {disks_on} {taken} {taken_on} {last} {f} {a} {b} R run sound goes = record {
-  since = λ rests k low high c left. let told : IsTrue a.tells = subst IsTrue run.goes.tells (told_at b k f c sound left) in (goes told (rests told)).0 k low high c left;
-  stands = λ rests told_b. let told : IsTrue a.tells = subst IsTrue run.goes.tells told_b in (goes told (rests told)).1;
-}
-
 -- where clusters rest, none is ready
 pub rests_stand : {s : Shape} {disks : List (List ℕ)} {taken : ℕ → Bool} {last f : ℕ} {w : World} → Rests s disks taken last f w → IsStanding s disks last last f w
 rests_stand rests told =
@@ -655,12 +646,3 @@ module _ {s : Shape} {disks : List (List ℕ)} {first last f : ℕ} {a b : World
           none_of : (k : ℕ) → st.role k ≡ Ready → IsTrue (taken k) ⊎ ((i : ℕ) × (st.role k ≡ Of (Block i))) → ⊥
           none_of k e (inl is) = let who = exactly.exact k is in of_ready (st.role k) who.0 (was_seen.lies.refs who.0 k who.1) e
           none_of k e (inr block) = of_ready (st.role k) (Block block.0) block.1 e
-
--- from one standing to rest
-pub rests_from : {parts : Parts} {s : Shape} {disks disks_on : List (List ℕ)} {taken : ℕ → Bool} {first last f : ℕ} {a b : World} (R : List ℕ → Type 0) → Runs parts a b → IsSound b
-    → (IsTrue a.tells → Standing s disks first last f a → EachSince b a.now f R × Resting s disks_on taken last f b)
-    → Moves f R (IsStanding s disks first last f) (Rests s disks_on taken last f) a b
-rests_from {parts} {s} {disks} {disks_on} {taken} {first} {last} {f} {a} {b} R run sound goes = record {
-  since = λ stands k low high c left. let told : IsTrue a.tells = subst IsTrue run.goes.tells (told_at b k f c sound left) in (goes told (stands told)).0 k low high c left;
-  stands = λ stands told_b. let told : IsTrue a.tells = subst IsTrue run.goes.tells told_b in (goes told (stands told)).1;
-}

@@ -1,212 +1,260 @@
--- A call that writes a run of neighbours.
-use Rattle.std.proofs.Common.{◌≡◌, ◌⊎◌, inl, inr, ℕ, ◌+◌, ◌*◌, ◌<◌, ◌≤◌, IsTrue, List, ◌∷◌, length, refl, sym, ◌∙◌, ap, subst, arith}
+-- Calls that write data into ready clusters, and that name them.
+use Rattle.std.proofs.Common.{◌≡◌, ◌≢◌, ◌⊎◌, inl, inr, ℕ, ◌+◌, ◌*◌, ◌<◌, ◌≤◌, IsTrue, List, ◌∷◌, length, refl, sym, ◌∙◌, ap, subst, arith}
 use Rattle.disk_model.specs.Files.{byte, u64_at, overlay, IsTorn}
-use Rattle.disk_model.specs.World.{World, IsSound, Writes, HasWritten, EachSince, Leads}
-use Rattle.disk_model.proofs.Laws.{lead_on, lead_more, run_on, write_leads, byte-overlay_in, byte-overlay_outside}
-use Rattle.image_model.specs.Clusters.{Shape, per, place, stored, Block, Table, Guest, IsBlock, IsTable, Use, Fresh, Ready, Of, IsBlank, host, IsGood, IsSafe, IsOwn, Standing}
-use Rattle.image_model.specs.Calls.{IsSame, Keeps, Shows}
-use Rattle.image_model.specs.Runs.{IsRunPut, IsOnlyRun, AreOpenIn, ShowIn}
-use Rattle.image_steps.proofs.Places.{Elsewhere, spared_cluster}
-use Rattle.image_steps.proofs.Good.{safe, more_safe, more_good}
+use Rattle.disk_model.specs.World.{World, IsSound, Writes, HasWritten, EachSince, Leads, Holds}
+use Rattle.disk_model.proofs.Laws.{write_leads, byte-overlay_in, byte-overlay_outside}
+use Rattle.image_model.specs.Clusters.{Shape, size, per, place, stored, Block, Table, Guest, IsBlock, IsTable, Use, Fresh, Spare, Ready, Of, IsBlank, SameIn, host, ShowsAs, IsGood, IsSafe, IsOwn, Standing}
+use Rattle.image_model.specs.Calls.{Keeps, LeavesGuest}
+use Rattle.image_model.specs.Runs.{IsFilling, AreFilled, Filled, HasData, IsLinking, LeavesRest, IsInSector, IsLinked, AreAsBefore, AreLinked}
+use Rattle.image_steps.proofs.Places.{Elsewhere, Spares, spared_cluster}
+use Rattle.image_steps.proofs.Good.{safe, more_safe}
 use Rattle.image_steps.proofs.Calls.{mixed_now}
-use Rattle.image_steps.proofs.Standing.{Places, AreLinked, is_ready, holds_of, leads_stand}
-use Rattle.image_steps.proofs.Kept.{guest_some, host_some}
-use Rattle.image_steps.proofs.Kept as kept
-use Rattle.image_steps.proofs.Links.{keeps_on, keeps_by}
+use Rattle.image_steps.proofs.Standing.{Places, is_ready, holds_of, stand_on}
+use Rattle.image_steps.proofs.Kept.{guest_some}
+use Rattle.image_steps.proofs.Links.{keeps_by}
+use Rattle.image_steps.proofs.Naming.{quiet_alike, entry_some}
 use Rattle.image_steps.proofs.Rows as rows
-use Rattle.image_steps.proofs.Neighbours.{Where, In, Out, where_is, ranged, ranged_in, ranged_out, IsTakingRun, AreFilled, run_elsewhere, run_fresh, row_spares, word_out, sets, not_table, named_host, part_is, sector_either, linked_run}
+use Rattle.image_steps.proofs.Neighbours.{IsIdle, Where, In, Out, where_is, ranged, ranged_in, ranged_out, change_range, IsSparing, fill_elsewhere, fill_good, row_spares, word_out, sets, not_table, named_host, part_is, sector_either, linked_run}
 
-module _ {s : Shape} {disks : List (List ℕ)} {first last k n q i j at spot f : ℕ} {bytes words : List ℕ} {a b : World} (is : IsRunPut s first last k n q i j at (length bytes) spot f words a) (sound : IsSound a) (sound_b : IsSound b) (call : Writes f at bytes a b)
+-- ---- data into ready clusters
+
+module _ {s : Shape} {disks : List (List ℕ)} {first last k n at f : ℕ} {bytes : List ℕ} {a b : World} (is : IsFilling s first last k n at (length bytes) f a) (sound : IsSound a) (sound_b : IsSound b) (call : Writes f at bytes a b)
     (told : IsTrue a.tells) (st : Standing s disks first last f a) where
-  run_ready : (m : ℕ) → m < n → st.role (k + m) ≡ Ready
-  run_ready m m_in = is_ready st (k + m) (record { from = omega (arith, is.from); to = omega (arith, is.to, m_in) }) (is.takeable m m_in told)
+  fill_ready : (m : ℕ) → m < n → st.role (k + m) ≡ Ready
+  fill_ready m m_in = is_ready st (k + m) (record { from = omega (arith, is.from); to = omega (arith, is.to, m_in) }) (is.takeable m m_in told)
 
-  pub run_role : ℕ → Use
-  run_role = ranged st.role k n (λ m. Of (Guest i (j + m)))
+  fill_role : ℕ → Use
+  fill_role = ranged st.role k n (λ m. Spare)
 
-  pub run_taking : IsTakingRun st.role run_role k n i j
-  unfolding run_role
-  run_taking = record {
-    ready = run_ready;
-    taken = λ m m_in. ranged_in st.role k n (λ m. Of (Guest i (j + m))) m m_in;
-    others = λ x out. ranged_out st.role k n (λ m. Of (Guest i (j + m))) x out;
+  filling : IsSparing st.role fill_role k n
+  unfolding fill_role
+  filling = record {
+    ready = fill_ready;
+    spare = λ m m_in. ranged_in st.role k n (λ m. Spare) m m_in;
+    others = λ x out. ranged_out st.role k n (λ m. Spare) x out;
   }
 
-  run_was_block : (e x : ℕ) → run_role x ≡ Of (Block e) → st.role x ≡ Of (Block e)
-  run_was_block e x is_block = by_place (where_is k n x)
+  fill_was_block : (e x : ℕ) → fill_role x ≡ Of (Block e) → st.role x ≡ Of (Block e)
+  fill_was_block e x is_block = by_place (where_is k n x)
+    where
+      differ : (u : Use) → u ≡ Spare → u ≡ Of (Block e) → ⊥
+      differ u p r = cc
+
+      by_place : Where k n x → st.role x ≡ Of (Block e)
+      by_place (In m m_in here) = absurd (differ (fill_role x) (ap fill_role here ∙ filling.spare m m_in) is_block)
+      by_place (Out out) = sym (filling.others x out) ∙ is_block
+
+  fill_places : Places s fill_role (k + n) last
+  fill_places = record {
+    order = is.to;
+    ready = λ x low high. on x (inr low) (st.ready x (omega (arith, low, is.from)) high);
+    edge = on_fresh last (inr is.to) st.edge;
+    fresh = λ x low. filling.others x (inr (omega (arith, is.to, low))) ∙ st.fresh x low;
+    one = λ e x y is_x is_y. st.one e x y (fill_was_block e x is_x) (fill_was_block e y is_y);
+  }
+    where
+      on : (x : ℕ) → (x < k) ⊎ (k + n ≤ x) → (st.role x ≡ Ready) ⊎ IsOwn s st.role x → (fill_role x ≡ Ready) ⊎ IsOwn s fill_role x
+      on x out (inl ready) = inl (filling.others x out ∙ ready)
+      on x out (inr own) = inr (own.0, own.1, filling.others x out ∙ own.2)
+
+      on_fresh : (x : ℕ) → (x < k) ⊎ (k + n ≤ x) → (st.role x ≡ Fresh) ⊎ IsOwn s st.role x → (fill_role x ≡ Fresh) ⊎ IsOwn s fill_role x
+      on_fresh x out (inl fresh) = inl (filling.others x out ∙ fresh)
+      on_fresh x out (inr own) = inr (own.0, own.1, filling.others x out ∙ own.2)
+
+  fill_apart : Elsewhere s st.role Ready (a.seen f) (b.seen f)
+  fill_apart = fill_elsewhere s is.shape k n at bytes is.low is.high st.role fill_role filling (a.seen f) (b.seen f) (call.torn told)
+
+  pub fill_leaves : LeavesGuest s (a.seen f) (b.seen f)
+  fill_leaves = record {
+    keeps = keeps_by s is.shape.some st.role (a.seen f) (b.seen f) st.seen.lies Ready fill_apart (λ e. cc) (λ e. cc);
+    alike = quiet_alike s is.shape.some st.role (a.seen f) (b.seen f) st.seen.lies st.seen.forms Ready fill_apart (λ e. cc) (λ x e. cc) (λ x y e. cc);
+  }
+
+  abbrev Holding : List ℕ → Type 0
+  Holding c = IsGood s fill_role disks c × AreFilled s k n (b.seen f) c
+
+  fill_leads : Leads f (IsGood s st.role disks) (IsGood s st.role disks) (IsSafe s disks) Holding Holding a b
+  fill_leads =
+      write_leads (IsGood s st.role disks) (IsGood s st.role disks) (IsSafe s disks) Holding Holding sound sound_b call
+      (λ c good. safe s st.role disks c good) (λ c has. safe s fill_role disks c has.0)
+      (λ good torn. (
+        fill_good s is.shape k n at bytes is.low is.high st.role fill_role filling disks (b.seen f) (a.seen f) (b.seen f) good torn (mixed_now (a.seen f) (b.seen f)),
+        λ old new old_good old_torn mixed. fill_good s is.shape k n at bytes is.low is.high st.role fill_role filling disks (b.seen f) old new old_good old_torn mixed,
+      ))
+
+  -- whatever the write answered
+  pub filled : EachSince b a.now f (IsSafe s disks) × Filled s disks k n (k + n) last f b
+  filled =
+      let after = fill_leads.after (holds_of st) in (
+        fill_leads.since (holds_of st),
+        record {
+          standing = record {
+            role = fill_role;
+            order = fill_places.order;
+            ready = fill_places.ready;
+            edge = fill_places.edge;
+            fresh = fill_places.fresh;
+            one = fill_places.one;
+            linked = λ x y of low. fill_leaves.keeps.blocks x y (st.linked x y (fill_was_block x y of) low);
+            seen = (after.seen (subst IsTrue (sym call.run.goes.tells) told)).0;
+            now = λ c left. (after.each c left).0;
+          };
+          spare = filling.spare;
+          now = λ c left. (after.each c left).1;
+        },
+      )
+
+  pub fill_data : HasWritten f at bytes a b → HasData s k n at bytes (b.seen f)
+  fill_data wrote = record {
+    inside = λ m t m_in t_in low high. ap (λ (c : List ℕ). byte c (place s (k + m) + t)) (wrote.seen told) ∙ byte-overlay_in (a.seen f) at bytes (place s (k + m) + t) low high;
+    outside = λ m t m_in t_in out.
+        ap (λ (c : List ℕ). byte c (place s (k + m) + t)) (wrote.seen told) ∙ byte-overlay_outside (a.seen f) at bytes (place s (k + m) + t) out
+        ∙ st.seen.lies.zeros (k + m) (subst IsBlank (sym (fill_ready m m_in)) tt) (place s (k + m) + t) (omega arith) (omega (arith, t_in));
+  }
+
+-- ---- the entries that name them
+
+module _ {s : Shape} {disks : List (List ℕ)} {first last k n q i j spot f : ℕ} {words : List ℕ} {a b : World} (is : IsLinking s first k n q i j spot f words a) (sound : IsSound a) (sound_b : IsSound b) (call : Writes f spot words a b)
+    (told : IsTrue a.tells) (h : Filled s disks k n first last f a) where
+  abbrev st : Standing s disks first last f a
+  st = h.standing
+
+  link_role : ℕ → Use
+  link_role = ranged st.role k n (λ m. Of (Guest i (j + m)))
+
+  owners : (m : ℕ) → m < n → link_role (k + m) ≡ Of (Guest i (j + m))
+  unfolding link_role
+  owners m m_in = ranged_in st.role k n (λ m. Of (Guest i (j + m))) m m_in
+
+  others : (x : ℕ) → (x < k) ⊎ (k + n ≤ x) → link_role x ≡ st.role x
+  unfolding link_role
+  others x out = ranged_out st.role k n (λ m. Of (Guest i (j + m))) x out
+
+  link_good : (c : List ℕ) → IsGood s st.role disks c → IsGood s link_role disks c
+  link_good c good = record {
+    lies = change_range s st.role link_role c k n good.lies (λ m m_in. subst IsIdle (sym (h.spare m m_in)) tt) (λ m m_in. inr (i, j + m, owners m m_in)) others;
+    forms = good.forms;
+    kept = good.kept;
+  }
+
+  link_was_block : (e x : ℕ) → link_role x ≡ Of (Block e) → st.role x ≡ Of (Block e)
+  link_was_block e x is_block = by_place (where_is k n x)
     where
       differ : (u : Use) (y : ℕ) → u ≡ Of (Guest i y) → u ≡ Of (Block e) → ⊥
       differ u y p r = cc
 
       by_place : Where k n x → st.role x ≡ Of (Block e)
-      by_place (In m m_in here) = absurd (differ (run_role x) (j + m) (ap run_role here ∙ run_taking.taken m m_in) is_block)
-      by_place (Out out) = sym (run_taking.others x out) ∙ is_block
+      by_place (In m m_in here) = absurd (differ (link_role x) (j + m) (ap link_role here ∙ owners m m_in) is_block)
+      by_place (Out out) = sym (others x out) ∙ is_block
 
-  run_places : Places s run_role (k + n) last
-  run_places = record {
-    order = is.to;
-    ready = λ x low high. on x (inr low) (st.ready x (omega (arith, low, is.from)) high);
-    edge = on_fresh last (inr is.to) st.edge;
-    fresh = λ x low. run_taking.others x (inr (omega (arith, is.to, low))) ∙ st.fresh x low;
-    one = λ e x y is_x is_y. st.one e x y (run_was_block e x is_x) (run_was_block e y is_y);
+  link_places : Places s link_role first last
+  link_places = record {
+    order = st.order;
+    ready = λ x low high. on x (omega (arith, low, is.below)) (st.ready x low high);
+    edge = on_fresh last (omega (arith, st.order, is.below)) st.edge;
+    fresh = λ x low. others x (inr (omega (arith, st.order, is.below, low))) ∙ st.fresh x low;
+    one = λ e x y is_x is_y. st.one e x y (link_was_block e x is_x) (link_was_block e y is_y);
   }
     where
-      on : (x : ℕ) → (x < k) ⊎ (k + n ≤ x) → (st.role x ≡ Ready) ⊎ IsOwn s st.role x → (run_role x ≡ Ready) ⊎ IsOwn s run_role x
-      on x out (inl ready) = inl (run_taking.others x out ∙ ready)
-      on x out (inr own) = inr (own.0, own.1, run_taking.others x out ∙ own.2)
+      on : (x : ℕ) → k + n ≤ x → (st.role x ≡ Ready) ⊎ IsOwn s st.role x → (link_role x ≡ Ready) ⊎ IsOwn s link_role x
+      on x past (inl ready) = inl (others x (inr past) ∙ ready)
+      on x past (inr own) = inr (own.0, own.1, others x (inr past) ∙ own.2)
 
-      on_fresh : (x : ℕ) → (x < k) ⊎ (k + n ≤ x) → (st.role x ≡ Fresh) ⊎ IsOwn s st.role x → (run_role x ≡ Fresh) ⊎ IsOwn s run_role x
-      on_fresh x out (inl fresh) = inl (run_taking.others x out ∙ fresh)
-      on_fresh x out (inr own) = inr (own.0, own.1, run_taking.others x out ∙ own.2)
+      on_fresh : (x : ℕ) → k + n ≤ x → (st.role x ≡ Fresh) ⊎ IsOwn s st.role x → (link_role x ≡ Fresh) ⊎ IsOwn s link_role x
+      on_fresh x past (inl fresh) = inl (others x (inr past) ∙ fresh)
+      on_fresh x past (inr own) = inr (own.0, own.1, others x (inr past) ∙ own.2)
 
-  run_links : (new : List ℕ) → ((x y : ℕ) → IsBlock s (a.seen f) x y → IsBlock s new x y) → AreLinked s run_role last new
-  run_links new keeps e x is_block low = keeps e x (st.linked e x (run_was_block e x is_block) low)
+  table : IsTable s (a.seen f) i q
+  table = (is.opened told).linked
 
-  run_torn : IsTorn at bytes (a.seen f) (b.seen f)
-  run_torn = call.torn told
-
-  run_apart : Elsewhere s st.role Ready (a.seen f) (b.seen f)
-  run_apart = run_elsewhere s is.shape k n i j at bytes is.low is.high st.role run_role run_taking (a.seen f) (b.seen f) run_torn
-
-  pub run_data_keeps : Keeps s (a.seen f) (b.seen f)
-  run_data_keeps = keeps_by s is.shape.some st.role (a.seen f) (b.seen f) st.seen.lies Ready run_apart (λ e. cc) (λ e. cc)
-
-  run_table_b : IsTable s (b.seen f) i q
-  run_table_b = run_data_keeps.tables i q (is.opened told).linked
-
-  slot_in : (m : ℕ) → m < n → j + m < per s
-  slot_in m m_in = omega (arith, is.slots.slots, m_in)
-
-  run_none_b : (m : ℕ) → m < n → host s (b.seen f) i (j + m) ≡ 0
-  run_none_b m m_in =
-      kept.host_same s is.shape.some st.role (a.seen f) (b.seen f) st.seen.lies st.seen.forms Ready run_apart (λ e. cc) (λ i e. cc) i (j + m) is.slots.index (slot_in m m_in) ∙ (is.opened told).none m m_in
-
-  -- where the data's write failed
-  pub run_data_open : (x : ℕ) → AreOpenIn s q i j n x (b.seen f)
-  run_data_open x m m_in here = record { linked = run_table_b; none = run_none_b m m_in }
-
-  run_same : IsSame s (a.seen f) (b.seen f)
-  run_same x y o x_in y_in o_in =
-      (kept.outer_shows s is.shape.some st.role (a.seen f) (b.seen f) st.seen.lies st.seen.forms Ready run_apart (λ e. cc) (λ n e. cc) (λ n m e. cc) x y o x_in y_in o_in).1
-
-  pub run_data_others : IsOnlyRun s i j n (a.seen f) (b.seen f)
-  run_data_others x y o x_in y_in o_in other = run_same x y o x_in y_in o_in
-
-  run_data_leads : Leads f (IsGood s st.role disks) (IsGood s st.role disks) (IsSafe s disks) (λ c. IsGood s run_role disks c × AreFilled s k n (b.seen f) c) (λ c. IsGood s run_role disks c × AreFilled s k n (b.seen f) c) a b
-  run_data_leads =
-      write_leads (IsGood s st.role disks) (IsGood s st.role disks) (IsSafe s disks) (λ c. IsGood s run_role disks c × AreFilled s k n (b.seen f) c) (λ c. IsGood s run_role disks c × AreFilled s k n (b.seen f) c) sound sound_b call
-      (λ c good. safe s st.role disks c good) (λ c has. safe s run_role disks c has.0)
-      (λ good torn. (
-        run_fresh s is.shape k n i j at bytes is.low is.high st.role run_role run_taking disks (b.seen f) (a.seen f) (b.seen f) good torn (mixed_now (a.seen f) (b.seen f)),
-        λ old new old_good old_torn mixed. run_fresh s is.shape k n i j at bytes is.low is.high st.role run_role run_taking disks (b.seen f) old new old_good old_torn mixed,
-      ))
-
-  pub run_data_failed : EachSince b a.now f (IsSafe s (b.seen f ∷ disks)) × Standing s (b.seen f ∷ disks) (k + n) last f b
-  run_data_failed = leads_stand st run_role run_places call.run told (run_links (b.seen f) run_data_keeps.blocks)
-      (lead_more (IsSafe s (b.seen f ∷ disks)) (IsGood s run_role (b.seen f ∷ disks)) (IsGood s run_role (b.seen f ∷ disks)) (λ c has. more_safe s disks (b.seen f) c has) (λ c has. more_good s run_role disks (b.seen f) c has.0) (λ c has. more_good s run_role disks (b.seen f) c has.0) run_data_leads)
-
-  run_table : st.role q ≡ Of (Table i)
-  run_table = st.seen.lies.refs (Table i) q (is.opened told).linked
-
-  run_table_on : run_role q ≡ Of (Table i)
-  run_table_on = by_place (where_is k n q)
+  table_role : link_role q ≡ Of (Table i)
+  table_role = by_place (where_is k n q)
     where
-      differ : (u : Use) → u ≡ Ready → u ≡ Of (Table i) → ⊥
+      differ : (u : Use) → u ≡ Spare → u ≡ Of (Table i) → ⊥
       differ u p r = cc
 
-      by_place : Where k n q → run_role q ≡ Of (Table i)
-      by_place (In m m_in here) = absurd (differ (st.role q) (ap st.role here ∙ run_ready m m_in) run_table)
-      by_place (Out out) = run_taking.others q out ∙ run_table
+      by_place : Where k n q → link_role q ≡ Of (Table i)
+      by_place (In m m_in here) = absurd (differ (st.role q) (ap st.role here ∙ h.spare m m_in) (st.seen.lies.refs (Table i) q table))
+      by_place (Out out) = others q out ∙ st.seen.lies.refs (Table i) q table
 
-  -- once it is done, the entries
-  module _ {d : World} (sound_d : IsSound d) (next : Writes f spot words b d) where
-    run_next : Writes f (place s q + 8 * j) words b d
-    run_next = subst (λ (p : ℕ). Writes f p words b d) is.slots.at next
+  link_at : Writes f (place s q + 8 * j) words a b
+  link_at = subst (λ (p : ℕ). Writes f p words a b) is.slots.at call
 
-    told_b : IsTrue b.tells
-    told_b = subst IsTrue (sym call.run.goes.tells) told
+  torn : IsTorn (place s q + 8 * j) words (a.seen f) (b.seen f)
+  torn = link_at.torn told
 
-    good_b : IsGood s run_role disks (b.seen f)
-    good_b = ((run_data_leads.after (holds_of st)).seen told_b).0
+  good : IsGood s link_role disks (a.seen f)
+  good = link_good (a.seen f) st.seen
 
-    torn_d : IsTorn (place s q + 8 * j) words (b.seen f) (d.seen f)
-    torn_d = run_next.torn told_b
+  spares : Spares (place s q) (size s) (a.seen f) (b.seen f)
+  spares = row_spares s is.shape link_role k n q i j is.some table_role is.slots.slots words is.links owners (a.seen f) (b.seen f) torn
 
-    run_sets : (y : ℕ) → y < per s → (u64_at (d.seen f) (place s q + 8 * y) ≡ u64_at (b.seen f) (place s q + 8 * y)) ⊎ rows.IsSet s run_role i y (u64_at (d.seen f) (place s q + 8 * y))
-    run_sets = sets s is.shape run_role k n q i j is.some run_table_on is.slots.slots words is.links run_taking.taken (b.seen f) (d.seen f) good_b.lies torn_d
+  set_words : (y : ℕ) → y < per s → (u64_at (b.seen f) (place s q + 8 * y) ≡ u64_at (a.seen f) (place s q + 8 * y)) ⊎ rows.IsSet s link_role i y (u64_at (b.seen f) (place s q + 8 * y))
+  set_words = sets s is.shape link_role k n q i j is.some table_role is.slots.slots words is.links owners (a.seen f) (b.seen f) good.lies torn
 
-    run_table_d : IsTable s (d.seen f) i q
-    run_table_d = rows.rows_on s is.shape.some run_role (b.seen f) (d.seen f) good_b.lies good_b.forms q i run_table_on (row_spares s is.shape run_role k n q i j is.some run_table_on is.slots.slots words is.links run_taking.taken (b.seen f) (d.seen f) torn_d) run_sets i q run_table_b
+  table_b : IsTable s (b.seen f) i q
+  table_b = rows.rows_on s is.shape.some link_role (a.seen f) (b.seen f) good.lies good.forms q i table_role spares set_words i q table
 
-    pub run_keeps : Keeps s (a.seen f) (d.seen f)
-    run_keeps =
-        let spares = row_spares s is.shape run_role k n q i j is.some run_table_on is.slots.slots words is.links run_taking.taken (b.seen f) (d.seen f) torn_d in
-        keeps_on s (a.seen f) (b.seen f) (d.seen f) run_data_keeps (record {
-          blocks = rows.rows_block_on s is.shape.some run_role (b.seen f) (d.seen f) good_b.lies good_b.forms q i run_table_on spares run_sets;
-          tables = rows.rows_on s is.shape.some run_role (b.seen f) (d.seen f) good_b.lies good_b.forms q i run_table_on spares run_sets;
-        })
+  -- an entry that isn't one of them
+  same_word : (x y : ℕ) → (x ≡ i → j ≤ y → y < j + n → ⊥) → x ≡ i → u64_at (b.seen f) (place s q + 8 * y) ≡ u64_at (a.seen f) (place s q + 8 * y)
+  same_word x y other here = by_place (where_is j n y)
+    where
+      by_place : Where j n y → u64_at (b.seen f) (place s q + 8 * y) ≡ u64_at (a.seen f) (place s q + 8 * y)
+      by_place (In m m_in at_y) = absurd (other here (omega (arith, at_y)) (omega (arith, at_y, m_in)))
+      by_place (Out out) = word_out s is.shape link_role k n q i j is.some table_role is.slots.slots words is.links owners (a.seen f) (b.seen f) torn y out
 
-    pub run_others : IsOnlyRun s i j n (a.seen f) (d.seen f)
-    run_others x y o x_in y_in o_in other t low high =
-        let spares = row_spares s is.shape run_role k n q i j is.some run_table_on is.slots.slots words is.links run_taking.taken (b.seen f) (d.seen f) torn_d in
-        rows.rows_shows s is.shape.some run_role (b.seen f) (d.seen f) good_b.lies good_b.forms q i run_table_on spares run_sets x y o x_in y_in o_in (λ here. by_place here (where_is j n y)) t low high
-        ∙ run_same x y o x_in y_in o_in t low high
-      where
-        by_place : x ≡ i → Where j n y → u64_at (d.seen f) (place s q + 8 * y) ≡ u64_at (b.seen f) (place s q + 8 * y)
-        by_place here (In m m_in at_y) = absurd (other here (omega (arith, at_y)) (omega (arith, at_y, m_in)))
-        by_place here (Out out) = word_out s is.shape run_role k n q i j is.some run_table_on is.slots.slots words is.links run_taking.taken (b.seen f) (d.seen f) torn_d y out
+  pub link_leaves : LeavesRest s i j n (a.seen f) (b.seen f)
+  link_leaves = record {
+    keeps = record {
+      blocks = rows.rows_block_on s is.shape.some link_role (a.seen f) (b.seen f) good.lies good.forms q i table_role spares set_words;
+      tables = rows.rows_on s is.shape.some link_role (a.seen f) (b.seen f) good.lies good.forms q i table_role spares set_words;
+    };
+    entries = λ x y x_in y_in other. rows.rows_entry s is.shape.some link_role (a.seen f) (b.seen f) good.lies good.forms q i table_role spares set_words x y x_in y_in (same_word x y other);
+    disk = λ x y o x_in y_in o_in other. rows.rows_shows s is.shape.some link_role (a.seen f) (b.seen f) good.lies good.forms q i table_role spares set_words x y o x_in y_in o_in (same_word x y other);
+  }
 
-    run_leads : Leads f (λ c. IsGood s run_role disks c × AreFilled s k n (b.seen f) c) (λ c. IsGood s run_role disks c × AreFilled s k n (b.seen f) c) (IsSafe s (d.seen f ∷ disks)) (IsGood s run_role (d.seen f ∷ disks)) (IsGood s run_role (d.seen f ∷ disks)) b d
-    run_leads =
-        write_leads (λ c. IsGood s run_role disks c × AreFilled s k n (b.seen f) c) (λ c. IsGood s run_role disks c × AreFilled s k n (b.seen f) c) (IsSafe s (d.seen f ∷ disks)) (IsGood s run_role (d.seen f ∷ disks)) (IsGood s run_role (d.seen f ∷ disks)) sound_b sound_d run_next
-        (λ c has. more_safe s disks (d.seen f) c (safe s run_role disks c has.0)) (λ c good. safe s run_role (d.seen f ∷ disks) c good)
-        (λ has torn. (
-          linked_run s is.shape run_role k n q i j is.some run_table_on is.slots.slots words is.links run_taking.taken disks is.slots.index (b.seen f) (d.seen f) (b.seen f) (d.seen f) has.0 run_table_b run_none_b torn has.0 has.1 torn (mixed_now (b.seen f) (d.seen f)),
-          λ old new old_has old_torn mixed.
-              linked_run s is.shape run_role k n q i j is.some run_table_on is.slots.slots words is.links run_taking.taken disks is.slots.index (b.seen f) (d.seen f) old new has.0 run_table_b run_none_b torn old_has.0 old_has.1 old_torn mixed,
-        ))
+  abbrev HasThem : List ℕ → Type 0
+  HasThem c = IsGood s link_role disks c × AreFilled s k n (a.seen f) c
 
-    pub run_all : EachSince d a.now f (IsSafe s (d.seen f ∷ disks)) × Standing s (d.seen f ∷ disks) (k + n) last f d
-    run_all = leads_stand st run_role run_places (run_on call.run next.run) told (run_links (d.seen f) run_keeps.blocks)
-        (lead_on call.run next.run
-        (lead_more (IsSafe s (d.seen f ∷ disks)) (λ c. IsGood s run_role disks c × AreFilled s k n (b.seen f) c) (λ c. IsGood s run_role disks c × AreFilled s k n (b.seen f) c) (λ c has. more_safe s disks (d.seen f) c has) (λ c has. has) (λ c has. has) run_data_leads)
-        run_leads)
+  link_holds : Holds f HasThem HasThem a
+  link_holds = record { seen = λ t. (good, λ m m_in o o_in. inr (λ b low high inside. refl)); each = λ c left. (link_good c (st.now c left), h.now c left) }
 
-    run_host : (m : ℕ) → m < n → u64_at (d.seen f) (place s q + 8 * (j + m)) ≡ u64_at words (8 * m) → host s (d.seen f) i (j + m) ≡ place s (k + m)
-    run_host m m_in word = named_host s is.shape run_role k n q i j is.some run_table_on is.slots.slots words is.links run_taking.taken (b.seen f) (d.seen f) good_b.lies good_b.forms torn_d run_table_b m (j + m) m_in word
+  link_leads : Leads f HasThem HasThem (IsSafe s (b.seen f ∷ disks)) (IsGood s link_role (b.seen f ∷ disks)) (IsGood s link_role (b.seen f ∷ disks)) a b
+  link_leads =
+      write_leads HasThem HasThem (IsSafe s (b.seen f ∷ disks)) (IsGood s link_role (b.seen f ∷ disks)) (IsGood s link_role (b.seen f ∷ disks)) sound sound_b link_at
+      (λ c has. more_safe s disks (b.seen f) c (safe s link_role disks c has.0)) (λ c good. safe s link_role (b.seen f ∷ disks) c good)
+      (λ has torn. (
+        linked_run s is.shape link_role k n q i j is.some table_role is.slots.slots words is.links owners disks is.slots.index (a.seen f) (b.seen f) (a.seen f) (b.seen f) has.0 table (is.opened told).none torn has.0 has.1 torn (mixed_now (a.seen f) (b.seen f)),
+        λ old new old_has old_torn mixed.
+            linked_run s is.shape link_role k n q i j is.some table_role is.slots.slots words is.links owners disks is.slots.index (a.seen f) (b.seen f) old new has.0 table (is.opened told).none torn old_has.0 old_has.1 old_torn mixed,
+      ))
 
-    run_shows_at : HasWritten f at bytes a b → (m : ℕ) → m < n → host s (d.seen f) i (j + m) ≡ place s (k + m) → Shows s i (j + m) (k + m) at bytes (λ t. 0) (d.seen f)
-    run_shows_at wrote m m_in there =
-        let more : 0 < k + m = omega (arith, is.some) in
-        let spares = row_spares s is.shape run_role k n q i j is.some run_table_on is.slots.slots words is.links run_taking.taken (b.seen f) (d.seen f) torn_d in
-        let same = spared_cluster s q (b.seen f) (d.seen f) spares (k + m) (not_table s is.shape run_role k n q i j is.some run_table_on is.slots.slots words is.links run_taking.taken m m_in) in
-        let is_zero = st.seen.lies.zeros (k + m) (subst IsBlank (sym (run_ready m m_in)) tt) in
-        record {
-          inside = λ t t_in low high.
-              guest_some s (d.seen f) i (j + m) t (k + m) is.shape.some more there ∙ same (place s (k + m) + t) (omega arith) (omega (arith, t_in))
-              ∙ ap (λ (x : List ℕ). byte x (place s (k + m) + t)) (wrote.seen told) ∙ byte-overlay_in (a.seen f) at bytes (place s (k + m) + t) low high;
-          outside = λ t t_in out.
-              guest_some s (d.seen f) i (j + m) t (k + m) is.shape.some more there ∙ same (place s (k + m) + t) (omega arith) (omega (arith, t_in))
-              ∙ ap (λ (x : List ℕ). byte x (place s (k + m) + t)) (wrote.seen told) ∙ byte-overlay_outside (a.seen f) at bytes (place s (k + m) + t) out ∙ is_zero (place s (k + m) + t) (omega arith) (omega (arith, t_in));
-        }
+  pub linked : EachSince b a.now f (IsSafe s (b.seen f ∷ disks)) × Standing s (b.seen f ∷ disks) first last f b
+  linked = (
+    link_leads.since link_holds,
+    stand_on link_role link_places (subst IsTrue (sym call.run.goes.tells) told) (λ x y of low. link_leaves.keeps.blocks x y (st.linked x y (link_was_block x y of) low)) (link_leads.after link_holds),
+  )
 
-    -- whatever the entries' write answered: those of a sector are as before, or all of them show
-    pub run_either : HasWritten f at bytes a b → (x : ℕ) → AreOpenIn s q i j n x (d.seen f) ⊎ ShowIn s k q i j n x at bytes (d.seen f)
-    run_either wrote x = elim (sector_either s is.shape run_role k n q i j is.some run_table_on is.slots.slots words is.links run_taking.taken (b.seen f) (d.seen f) good_b.lies torn_d x) [
-      | inl same ↦ inl (λ m m_in here. record {
-        linked = run_table_d;
-        none = host_some s (d.seen f) i (j + m) q is.shape.some run_table_d ∙ ap stored (same m m_in here) ∙ sym (host_some s (b.seen f) i (j + m) q is.shape.some run_table_b) ∙ run_none_b m m_in;
-      })
-      | inr new ↦ inr (λ m m_in here. run_shows_at wrote m m_in (run_host m m_in (new m m_in here)))
-    ]
+  -- where the word was written
+  link_named : (m : ℕ) → m < n → u64_at (b.seen f) (place s q + 8 * (j + m)) ≡ u64_at words (8 * m) → IsLinked s i (j + m) (k + m) (u64_at words (8 * m)) (a.seen f) (b.seen f)
+  link_named m m_in word =
+      let more : 0 < k + m = omega (arith, is.some) in
+      let there : host s (b.seen f) i (j + m) ≡ place s (k + m) = named_host s is.shape link_role k n q i j is.some table_role is.slots.slots words is.links owners (a.seen f) (b.seen f) good.lies good.forms torn table m (j + m) m_in word in
+      let same : SameIn s (k + m) (a.seen f) (b.seen f) = spared_cluster s q (a.seen f) (b.seen f) spares (k + m) (not_table s is.shape link_role k n q i j is.some table_role is.slots.slots words is.links owners m m_in) in
+      record {
+        names = entry_some s (b.seen f) i (j + m) q is.shape.some table_b ∙ word;
+        at = there;
+        shows = λ t t_in. guest_some s (b.seen f) i (j + m) t (k + m) is.shape.some more there ∙ same (place s (k + m) + t) (omega arith) (omega (arith, t_in));
+      }
 
-    run_words : HasWritten f spot words b d → (m : ℕ) → m < n → u64_at (d.seen f) (place s q + 8 * (j + m)) ≡ u64_at words (8 * m)
-    run_words done m m_in =
-        let new : d.seen f ≡ overlay (b.seen f) (place s q + 8 * j) words = done.seen told_b ∙ ap (λ (p : ℕ). overlay (b.seen f) p words) is.slots.at in
-        ap (λ (c : List ℕ). u64_at c (place s q + 8 * (j + m))) new ∙ part_is s is.shape run_role k n q i j is.some run_table_on is.slots.slots words is.links run_taking.taken (b.seen f) m (j + m) m_in refl
+  -- whatever the write answered: the entries of a sector are as before, or all of them are linked
+  pub link_either : (x : ℕ) → AreAsBefore s q i j n x (a.seen f) (b.seen f) ⊎ AreLinked s k q i j n x words (a.seen f) (b.seen f)
+  link_either x = elim (sector_either s is.shape link_role k n q i j is.some table_role is.slots.slots words is.links owners (a.seen f) (b.seen f) good.lies torn x) [
+    | inl same ↦ inl (λ m m_in here. entry_some s (b.seen f) i (j + m) q is.shape.some table_b ∙ same m m_in here ∙ sym (entry_some s (a.seen f) i (j + m) q is.shape.some table))
+    | inr new ↦ inr (λ m m_in here. link_named m m_in (new m m_in here))
+  ]
 
-    pub run_done : HasWritten f spot words b d → IsTable s (d.seen f) i q × ((m : ℕ) → m < n → host s (d.seen f) i (j + m) ≡ place s (k + m))
-    run_done done = (run_table_d, λ m m_in. run_host m m_in (run_words done m m_in))
-
-    pub run_shows : HasWritten f at bytes a b → HasWritten f spot words b d → (m : ℕ) → m < n → Shows s i (j + m) (k + m) at bytes (λ t. 0) (d.seen f)
-    run_shows wrote done m m_in = run_shows_at wrote m m_in (run_host m m_in (run_words done m m_in))
+  pub link_done : HasWritten f spot words a b → (m : ℕ) → m < n → IsLinked s i (j + m) (k + m) (u64_at words (8 * m)) (a.seen f) (b.seen f)
+  link_done done m m_in =
+      let new : b.seen f ≡ overlay (a.seen f) (place s q + 8 * j) words = done.seen told ∙ ap (λ (p : ℕ). overlay (a.seen f) p words) is.slots.at in
+      link_named m m_in (ap (λ (c : List ℕ). u64_at c (place s q + 8 * (j + m))) new ∙ part_is s is.shape link_role k n q i j is.some table_role is.slots.slots words is.links owners (a.seen f) m (j + m) m_in refl)

@@ -112,12 +112,10 @@ pub stand_on : {s : Shape} {disks : List (List ℕ)} {first last f : ℕ} {w : W
 stand_on role at told linked holds = record { role = role; order = at.order; ready = at.ready; edge = at.edge; fresh = at.fresh; one = at.one; linked = linked; seen = holds.seen told; now = holds.each }
 
 -- what is shown where files are told
-pub moves_of : {parts : Parts} {s : Shape} {disks disks_on : List (List ℕ)} {first last first_on last_on f : ℕ} {a b : World} (R : List ℕ → Type 0) → Runs parts a b → IsSound b
-    → (IsTrue a.tells → Standing s disks first last f a → EachSince b a.now f R × Standing s disks_on first_on last_on f b)
-    → Moves f R (IsStanding s disks first last f) (IsStanding s disks_on first_on last_on f) a b
-moves_of {parts} {s} {disks} {disks_on} {first} {last} {first_on} {last_on} {f} {a} {b} R run sound goes = record {
-  since = λ stands k low high c left. let told : IsTrue a.tells = subst IsTrue run.goes.tells (told_at b k f c sound left) in (goes told (stands told)).0 k low high c left;
-  stands = λ stands told_b. let told : IsTrue a.tells = subst IsTrue run.goes.tells told_b in (goes told (stands told)).1;
+pub moves_of : {parts : Parts} {f : ℕ} {A B : World → Type 0} {a b : World} (R : List ℕ → Type 0) → Runs parts a b → IsSound b → (IsTrue a.tells → A a → EachSince b a.now f R × B b) → Moves f R (λ w. IsTrue w.tells → A w) (λ w. IsTrue w.tells → B w) a b
+moves_of {parts} {f} {A} {B} {a} {b} R run sound goes = record {
+  since = λ is k low high c left. let told : IsTrue a.tells = subst IsTrue run.goes.tells (told_at b k f c sound left) in (goes told (is told)).0 k low high c left;
+  stands = λ is told_b. let told : IsTrue a.tells = subst IsTrue run.goes.tells told_b in (goes told (is told)).1;
 }
 
 -- by what the calls lead to

@@ -73,20 +73,3 @@ module _ {s : Shape} {next finish f : ℕ} {file : List ℕ} {a b : World} (ends
           reaching s next file begins.opened (d.seen f) (omega (arith, at, length-overlay (a.seen f) finish (0 ∷ []) (omega arith), ends)))
           (synced_exact sound_b syncs synced),
     )
-
--- what is shown where files are told
-pub begin_moves : {parts : Parts} {s : Shape} {next f : ℕ} {file : List ℕ} {a b : World} (R : List ℕ → Type 0) → Runs parts a b → IsSound b
-    → (IsTrue a.tells → Beginning s next file f a → EachSince b a.now f R × Beginning s next file f b)
-    → Moves f R (Begins s next file f) (Begins s next file f) a b
-begin_moves {parts} {s} {next} {f} {file} {a} {b} R run sound goes = record {
-  since = λ begins k low high c left. let told : IsTrue a.tells = subst IsTrue run.goes.tells (told_at b k f c sound left) in (goes told (begins told)).0 k low high c left;
-  stands = λ begins told_b. let told : IsTrue a.tells = subst IsTrue run.goes.tells told_b in (goes told (begins told)).1;
-}
-
-pub begin_stands : {parts : Parts} {s : Shape} {next f first last : ℕ} {disks : List (List ℕ)} {file : List ℕ} {a b : World} (R : List ℕ → Type 0) → Runs parts a b → IsSound b
-    → (IsTrue a.tells → Beginning s next file f a → EachSince b a.now f R × Standing s disks first last f b)
-    → Moves f R (Begins s next file f) (IsStanding s disks first last f) a b
-begin_stands {parts} {s} {next} {f} {first} {last} {disks} {file} {a} {b} R run sound goes = record {
-  since = λ begins k low high c left. let told : IsTrue a.tells = subst IsTrue run.goes.tells (told_at b k f c sound left) in (goes told (begins told)).0 k low high c left;
-  stands = λ begins told_b. let told : IsTrue a.tells = subst IsTrue run.goes.tells told_b in (goes told (begins told)).1;
-}

@@ -3,13 +3,14 @@ use Rattle.std.proofs.lemmas.Result.{on_ok_weaker}
 use Rattle.disk_model.specs.World.{HasWritten}
 use Rattle.image_model.specs.Clusters.{Shape, IsShape, IsBlock, IsSafe}
 use Rattle.image_model.specs.Calls.{Told, IsSettling, Rests}
-use Rattle.image_steps.proofs.Pools.{settled, settled_leaves, settled_others, settled_counts, rests_of}
+use Rattle.image_steps.proofs.Pools.{settled, settled_leaves, settled_others, settled_counts}
+use Rattle.image_steps.proofs.Standing.{moves_of}
 use Rattle.image_calls.proofs.counts.settle_counts.Goals as goal
 
 pub returns-clause-moves : goal.returns-clause-moves
 returns-clause-moves g c s disks taken last q i low n shape is block =
     let sound = g.met.D.Depot.sound in
-    rests_of (IsSafe s disks) c.write.ensures.wrote.call.run (sound _) (λ told rests. settled shape is (sound _) (sound _) c.write.ensures.wrote.call told (block told) rests)
+    moves_of (IsSafe s disks) c.write.ensures.wrote.call.run (sound _) (λ told rests. settled shape is (sound _) (sound _) c.write.ensures.wrote.call told (block told) rests)
 
 pub returns-clause-leaves : goal.returns-clause-leaves
 returns-clause-leaves g c s disks taken last q i low n shape is block rests told =
