@@ -63,8 +63,7 @@ pub fn add_block<D: Depot>(
     write(depot, file, finish, &[end])?;
     write(depot, file, spot, &[0, 1])?;
     sync(depot, file)?;
-    write(depot, file, at, &word.to_be_bytes())?;
-    sync(depot, file)
+    write(depot, file, at, &word.to_be_bytes()) // the next sync makes it last
 }
 
 /// Syncs. Then the disk as it is is the one that a crash may leave, and what nothing refers to may be used for anything.

@@ -441,47 +441,29 @@ module _ {s : Shape} {disks : List (List ℕ)} {first i last slot spot finish en
         pub block_wrote : EachSince g a.now f (IsSafe s disks) × Standing s disks first last f g
         block_wrote = (since_g, stand_on role_block_on places_before told_g (linked_before (g.seen f) keeps_g.blocks) (linking.after holds_e))
 
-        module _ {h : World} (sound_h : IsSound h) (last_sync : Syncs f g h) where
-          ending : Leads f Good Good (IsSafe s disks) Good Good g h
-          ending = good_sync s role_block_on disks sound_g last_sync
+        module _ (wrote_g : HasWritten f at bytes e g) where
+          seen_g : g.seen f ≡ overlay (e.seen f) row_at bytes
+          seen_g = wrote_g.seen told_e ∙ ap (λ (p : ℕ). overlay (e.seen f) p bytes) is.call.at_is
 
-          keeps_h : Keeps s (a.seen f) (h.seen f)
-          keeps_h = subst (Keeps s (a.seen f)) (sym last_sync.seen) keeps_g
+          pub block_there : IsBlock s (g.seen f) i last
+          block_there = record {
+            inside = is.call.inside;
+            some = is.call.some;
+            at = ap (λ (c : List ℕ). u64_at c row_at) seen_g ∙ number-overlay_same w64 (e.seen f) row_at bytes eight ∙ says ∙ is.call.word_is;
+          }
 
-          block_end : {last_on : ℕ} → Places s role_block_on first last_on → AreLinked s role_block_on last_on (h.seen f) → EachSince h a.now f (IsSafe s disks) × Standing s disks first last_on f h
-          block_end at linked = (
-            since_on a.now f (IsSafe s disks) last_sync.run since_g (ending.since (linking.after holds_e)),
-            stand_on role_block_on at (subst IsTrue (sym last_sync.run.goes.tells) told_g) linked (ending.after (linking.after holds_e)),
-          )
+          linked_after : AreLinked s role_block_on (last + 1) (g.seen f)
+          linked_after x m e low = elim (cases_eq m last) [
+            | inr differ ↦ linked_before (g.seen f) keeps_g.blocks x m e (omega (arith, low, differ))
+            | inl same ↦ subst (λ (k : ℕ). IsBlock s (g.seen f) x k) (sym same) (subst (λ (y : ℕ). IsBlock s (g.seen f) y last) (index_is x (sym here ∙ sym (ap role_block_on same) ∙ e)) block_there)
+          ]
+            where
+              index_is : (x : ℕ) → Of (Block i) ≡ Of (Block x) → i ≡ x
+              index_is x e = cc
 
-          pub block_leaves_h : LeavesGuest s (a.seen f) (h.seen f)
-          block_leaves_h = subst (LeavesGuest s (a.seen f)) (sym last_sync.seen) block_leaves_g
-
-          pub block_failed : EachSince h a.now f (IsSafe s disks) × Standing s disks first last f h
-          block_failed = block_end places_before (linked_before (h.seen f) keeps_h.blocks)
-
-          module _ (wrote_g : HasWritten f at bytes e g) where
-            seen_g : g.seen f ≡ overlay (e.seen f) row_at bytes
-            seen_g = wrote_g.seen told_e ∙ ap (λ (p : ℕ). overlay (e.seen f) p bytes) is.call.at_is
-
-            pub block_there : IsBlock s (h.seen f) i last
-            block_there = record {
-              inside = is.call.inside;
-              some = is.call.some;
-              at = ap (λ (c : List ℕ). u64_at c row_at) (last_sync.seen ∙ seen_g) ∙ number-overlay_same w64 (e.seen f) row_at bytes eight ∙ says ∙ is.call.word_is;
-            }
-
-            linked_after : AreLinked s role_block_on (last + 1) (h.seen f)
-            linked_after x m e low = elim (cases_eq m last) [
-              | inr differ ↦ linked_before (h.seen f) keeps_h.blocks x m e (omega (arith, low, differ))
-              | inl same ↦ subst (λ (k : ℕ). IsBlock s (h.seen f) x k) (sym same) (subst (λ (y : ℕ). IsBlock s (h.seen f) y last) (index_is x (sym here ∙ sym (ap role_block_on same) ∙ e)) block_there)
-            ]
-              where
-                index_is : (x : ℕ) → Of (Block i) ≡ Of (Block x) → i ≡ x
-                index_is x e = cc
-
-            pub block_done : EachSince h a.now f (IsSafe s disks) × Standing s disks first (last + 1) f h
-            block_done = block_end places_after linked_after
+          -- the next sync makes the link last
+          pub block_done : EachSince g a.now f (IsSafe s disks) × Standing s disks first (last + 1) f g
+          block_done = (since_g, stand_on role_block_on places_after told_g linked_after (linking.after holds_e))
 
 -- ---- settling
 
