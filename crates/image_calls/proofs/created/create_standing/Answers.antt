@@ -4,10 +4,13 @@ use Rattle.backup_file.specs.Made.{IsNewSource}
 use Rattle.file_device.proofs.Laws.{given}
 use Rattle.image_model.specs.Calls.{IsOpened, AreInside, shape_of}
 use Rattle.image_calls.proofs.NewFiles.{created_opened, created_inside, created_block}
+use Rattle.image_calls.proofs.Refusing.{synced_again, sync_refused}
 use Rattle.image_calls.proofs.created.create_standing.Goals as goal
 
 pub returns-in-Ok : goal.returns-in-Ok
 returns-in-Ok g c = record {
+  made = synced_again c.in_ok-file.ensures.made c.in-Ok.ensures.synced;
+  refuses = tt;
   stands = λ told.
       let told_a : IsTrue (g.D.Outside.world c.create_source.new.depot).tells = subst IsTrue c.begin.ensures.synced.puts.writes.goes.tells told in
       let same = c.begin.ensures.synced.call.seen in
@@ -25,3 +28,6 @@ returns-in-Ok g c = record {
       let made : IsNewSource c.args.cluster_bits c.args.size c.args.disk file = subst (IsNewSource c.args.cluster_bits c.args.size c.args.disk) (sym c.begin.ensures.synced.call.seen) (given _ c.in_ok-file.file.0 (IsNewSource c.args.cluster_bits c.args.size c.args.disk) c.in_ok-file.ensures.made.holds.seen told_a) in
       created_block c.args.cluster_bits c.args.size c.args.disk file c.requires made;
 }
+
+pub returns-in-Err : goal.returns-in-Err
+returns-in-Err g c = record { made = tt; refuses = sync_refused c.in_ok-file.ensures.made c.in-Err.ensures.synced; stands = tt; blocks = tt }
