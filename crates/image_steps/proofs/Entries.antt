@@ -1,22 +1,22 @@
 -- Calls on a guest's cluster.
-use Rattle.std.proofs.Common.{◌≡◌, ◌≢◌, ℕ, ◌+◌, ◌*◌, ◌<◌, ◌≤◌, IsTrue, List, ◌∷◌, length, sym, ◌∙◌, ap, subst, arith, ◌⊎◌, ⊎_elim, inl, inr, ◌/◌}
+use Rattle.std.proofs.Common.{◌≡◌, ℕ, ◌+◌, ◌*◌, ◌<◌, ◌≤◌, IsTrue, List, ◌∷◌, length, sym, ◌∙◌, ap, subst, arith, ◌⊎◌, ⊎_elim, inl, inr, ◌/◌}
 use Rattle.std.specs.Int.{from_be_bytes, w64}
-use Rattle.disk_model.specs.Files.{byte, u64_at, overlay, IsTorn, AgreesAt}
+use Rattle.disk_model.specs.Files.{byte, u64_at, overlay, AgreesAt}
 use Rattle.image_model.specs.Clusters.{Block, word_of, ShowsAs}
-use Rattle.image_model.specs.Calls.{SameGuest, SameBut, IsPartly}
-use Rattle.image_steps.proofs.Naming.{quiet_entry, quiet_alike, other_word, entry_some, table_entry, table_alike, alike_self}
-use Rattle.disk_model.specs.World.{World, IsSound, Writes, HasWritten, EachSince, Leads}
-use Rattle.disk_model.proofs.Laws.{lead_on, lead_more, lead_from, run_on, one_sector_write, number-overlay_same}
-use Rattle.image_model.specs.Clusters.{Shape, size, per, place, offset, stored, Table, Guest, IsBlock, IsTable, Use, Ready, Of, IsBlank, IsShape, IsZero, host, guest, IsGood, IsSafe, IsLink, IsFilled, IsTaking, Standing}
-use Rattle.image_model.specs.Calls.{IsSlot, IsOpen, IsIn, IsOnly, IsSame, IsTablePut, IsData, Keeps, Shows, LeavesGuest, LeavesOthers, IsNewTable}
-use Rattle.image_steps.proofs.Places.{Spares, within, spared_cluster, torn_spares, spares_more, sector_at}
+use Rattle.image_model.specs.Calls.{SameGuest, IsPartly}
+use Rattle.image_steps.proofs.Naming.{quiet_entry, other_word, entry_some, table_entry, table_alike, alike_self}
+use Rattle.disk_model.specs.World.{World, IsSound, Writes, HasWritten, EachSince}
+use Rattle.disk_model.proofs.Laws.{lead_from, one_sector_write, number-overlay_same}
+use Rattle.image_model.specs.Clusters.{Shape, size, per, place, offset, Table, Guest, IsTable, Use, Ready, Of, IsBlank, IsShape, IsZero, host, guest, IsGood, IsSafe, IsLink, IsTaking, Standing}
+use Rattle.image_model.specs.Calls.{IsSlot, IsIn, IsOnly, IsTablePut, IsData, Keeps, Shows, LeavesGuest, LeavesOthers, IsNewTable}
+use Rattle.image_steps.proofs.Places.{Spares, within, torn_spares, spares_more, sector_at}
 use Rattle.image_steps.proofs.Steps.{taken_of}
-use Rattle.image_steps.proofs.Good.{more_safe, more_good, take, data_within, word_is, row_spared, row_set, entry_inside}
+use Rattle.image_steps.proofs.Good.{take, data_within, word_is, row_set, entry_inside}
 use Rattle.image_steps.proofs.Calls.{in_place_leads, hole_leads, row_leads, row_inside}
-use Rattle.image_steps.proofs.Standing.{put, taking, Places, AreLinked, places, is_ready, taken_places, taken_linked, still_linked, holds_of, leads_stand}
+use Rattle.image_steps.proofs.Standing.{put, taking, places, is_ready, taken_places, taken_linked, still_linked, leads_stand}
 use Rattle.image_steps.proofs.Kept as kept
 use Rattle.image_steps.proofs.Kept.{guest_some}
-use Rattle.image_steps.proofs.Links.{keeps_on, keeps_by, keeps_row}
+use Rattle.image_steps.proofs.Links.{keeps_by, keeps_row}
 use Rattle.disk_model.proofs.Laws.{byte-overlay_in, byte-overlay_outside}
 use Rattle.image_steps.proofs.Steps as steps
 

@@ -1,5 +1,5 @@
 -- What each change makes of a file that is good.
-use Rattle.std.proofs.Common.{◌≡◌, ◌≢◌, ◌⊎◌, inl, inr, ⊎_elim, ℕ, ◌+◌, ◌*◌, ◌/◌, ◌%◌, ◌^◌, ◌<◌, ◌≤◌, List, ◌∷◌, length, Some, refl, sym, ◌∙◌, ap, subst, arith}
+use Rattle.std.proofs.Common.{◌≡◌, ◌⊎◌, inl, inr, ⊎_elim, ℕ, ◌+◌, ◌*◌, ◌/◌, ◌%◌, ◌^◌, ◌<◌, ◌≤◌, List, ◌∷◌, length, Some, refl, sym, ◌∙◌, ap, subst, arith}
 use Rattle.std.proofs.lemmas.Bool.{cases_eq, cases_lt}
 use Rattle.std.proofs.Math.Nat.{mul-le-mul_left}
 use Rattle.std.proofs.Math.Pow.{pow_mono}
@@ -7,11 +7,10 @@ use Rattle.std.specs.Int.{from_be_bytes, w64}
 use Rattle.disk_model.specs.Files.{byte, u64_at, overlay, AgreesAt, IsTorn}
 use Rattle.disk_model.proofs.Laws.{IsMixed, whole_torn, number-overlay_same, byte_past}
 use Rattle.qc_layout.specs.Disks.{bits_of}
-use Rattle.image_model.specs.Clusters.{Shape, size, per, place, offset, if_zero, stored, Who, Head, Counts, Block, Tables, Table, Guest, IsBlock, IsTable, Refers, IsCounted, AllCounted, Use, Ready, Of, IsTaken, IsBlank, IsFixed, SameIn, IsZero, IsUsed, IsShape, Lies, IsTableWord, IsGuestWord, host, IsKept, IsGood, IsSafe, IsLink, IsFilled, IsTaking, Bitmaps, Held, IsOwnCount}
-use Rattle.image_steps.proofs.Places.{Spares, Elsewhere, torn_spares, spares_more, within, place_apart, place_same, place_some, sector_at, offset_none}
+use Rattle.image_model.specs.Clusters.{Shape, size, per, place, offset, if_zero, stored, Who, Head, Counts, Block, Tables, Table, Guest, IsBlock, IsTable, Refers, IsCounted, AllCounted, Use, Ready, Of, IsTaken, IsBlank, IsFixed, SameIn, IsZero, IsUsed, IsShape, Lies, IsTableWord, IsGuestWord, host, IsKept, IsGood, IsSafe, IsLink, IsTaking, Bitmaps, Held, IsOwnCount}
+use Rattle.image_steps.proofs.Places.{Spares, torn_spares, spares_more, within, place_some, offset_none}
 use Rattle.image_steps.proofs.Steps.{taken_of, guest_none_word}
 use Rattle.image_steps.proofs.Kept.{stored_none, host_none, shown}
-use Rattle.image_steps.proofs.Frame as frame
 use Rattle.image_steps.proofs.Steps as steps
 use Rattle.image_steps.proofs.Kept as kept
 

@@ -1,10 +1,10 @@
 -- What reads give after a call on a guest's cluster.
-use Rattle.std.proofs.Common.{◌≡◌, ◌≢◌, inl, inr, ℕ, ◌+◌, ◌*◌, ◌<◌, IsTrue, List, ◌∙◌, ap, subst, arith}
+use Rattle.std.proofs.Common.{◌≡◌, ◌≢◌, inl, inr, ℕ, ◌+◌, ◌*◌, ◌<◌, ◌≤◌, List, ◌∙◌, ap, arith}
 use Rattle.std.proofs.lemmas.Bool.{cases_eq, cases_lt}
 use Rattle.disk_model.specs.Files.{u64_at}
-use Rattle.disk_model.specs.World.{World, Parts, Runs}
 use Rattle.image_model.specs.Clusters.{Shape, per, offset, stored, Counts, Tables, Use, Of, Lies}
-use Rattle.image_model.specs.Calls.{IsOpen, IsTakeable, Keeps, IsNewTable}
+use Rattle.image_model.specs.Calls.{IsTakeable, Keeps, IsNewTable}
+use Rattle.image_model.specs.Runs.{AreOpen}
 use Rattle.image_steps.proofs.Places.{Spares, Elsewhere, in_row, word_spared, place_some}
 use Rattle.image_steps.proofs.Kept.{stored_none}
 use Rattle.image_steps.proofs.Naming.{host_entry}
@@ -32,5 +32,5 @@ keeps_row s some role old new i0 inside lies none spares = record {
 }
 
 -- the entries of a new table are holes
-pub new_open : {s : Shape} {t i j word : ℕ} {file : List ℕ} → IsNewTable s t i word file → j < per s → IsOpen s t i j file
-new_open {s} {t} {i} {j} {word} {file} is j_in = record { linked = is.linked; none = host_entry s file i j ∙ ap stored (is.none j j_in) ∙ stored_none }
+pub new_open : {s : Shape} {t i j n word : ℕ} {file : List ℕ} → IsNewTable s t i word file → j + n ≤ per s → AreOpen s t i j n file
+new_open {s} {t} {i} {j} {n} {word} {file} is inside = record { linked = is.linked; none = λ m m_in. host_entry s file i (j + m) ∙ ap stored (is.none (j + m) (omega (arith, inside, m_in))) ∙ stored_none }

@@ -4,7 +4,7 @@ use Rattle.std.proofs.lemmas.Bool.{cases_lt}
 use Rattle.std.specs.Int.{w64}
 use Rattle.disk_model.specs.Files.{byte, u64_at, overlay, AgreesAt, IsTorn, SomeVersion}
 use Rattle.disk_model.proofs.Laws.{IsMixed, mixed_number, number_either, number_same, number-overlay_part}
-use Rattle.image_model.specs.Clusters.{Shape, size, per, place, offset, stored, Who, Block, Table, Guest, IsTable, Refers, Use, Free, Fresh, Spare, Ready, Of, IsTaken, IsBlank, IsFixed, SameIn, IsUsed, IsShape, Lies, Forms, IsGuestWord, host, ShowsAs, IsGood, IsFilled}
+use Rattle.image_model.specs.Clusters.{Shape, size, per, place, offset, stored, Who, Block, Table, Guest, IsTable, Refers, Use, Free, Fresh, Spare, Ready, Of, IsTaken, IsBlank, IsFixed, SameIn, IsUsed, IsShape, Lies, Forms, IsGuestWord, host, ShowsAs, IsGood}
 use Rattle.image_steps.proofs.Places.{Spares, Elsewhere, torn_spares, spares_more, word_spared, spared_cluster, place_more, place_next, sector_at}
 use Rattle.image_steps.proofs.Steps.{taken_of, data_keeps, quiet_forms, zeros_on}
 use Rattle.image_steps.proofs.Good.{Change, recast, more_good, is_shown, IsLinkWord, link_word}
@@ -109,9 +109,6 @@ change_range s role role_on file k n lies idle mild others = recast s role role_
         (lies.used (k + m) (idle_taken (role (k + m)) (idle m low)) (λ i e. absurd (not_of (role (k + m)) (Block i) (idle m low) e)))))
 
 -- ---- data
-
-pub range_place : (s : Shape) (k n m : ℕ) → m < n → place s (k + m) + size s ≤ place s (k + n)
-range_place s k n m low = omega (arith, place_next s (k + m), place_more s (k + m + 1) (k + n) (omega (arith, low)))
 
 -- a write in a range of clusters leaves the others
 pub range_elsewhere : (s : Shape) (role : ℕ → Use) (u : Use) (k n at long : ℕ) (old new : List ℕ) → place s k ≤ at → at + long ≤ place s (k + n) → ((m : ℕ) → m < n → role (k + m) ≡ u) → Spares at long old new → Elsewhere s role u old new

@@ -3,7 +3,7 @@ use Rattle.std.proofs.Common.{◌≡◌, ◌≢◌, ◌⊎◌, inl, inr, ⊎_eli
 use Rattle.std.proofs.lemmas.Bool.{cases_eq, cases_lt}
 use Rattle.std.proofs.lemmas.List.{get_or-replicate}
 use Rattle.std.proofs.Math.Nat.{mul-le-mul_left, div-add-mod, mod-lt}
-use Rattle.std.specs.Int.{from_be_bytes, w64, w16}
+use Rattle.std.specs.Int.{w64, w16}
 use Rattle.disk_model.specs.Files.{byte, reading, u16_at, u64_at, IsTorn}
 use Rattle.disk_model.proofs.Laws.{torn_elsewhere, number_same, number_read, length-reading, byte-reading, same_file}
 use Rattle.image_model.specs.Clusters.{Shape, size, place, offset, Meets, Who, Use, Of, SameIn}

@@ -3,8 +3,8 @@ use Rattle.std.proofs.Common.{◌≡◌, ◌≢◌, ◌⊎◌, inl, inr, ⊎_eli
 use Rattle.std.proofs.lemmas.Bool.{cases_eq, cases_lt}
 use Rattle.std.specs.Int.{from_be_bytes, w16, w64}
 use Rattle.disk_model.specs.Files.{u16_at, u64_at, overlay, IsTorn}
-use Rattle.disk_model.specs.World.{World, Parts, Runs, writes_of, IsSound, Writes, HasWritten, Syncs, HasSynced, EachSince, Leads, Holds}
-use Rattle.disk_model.proofs.Laws.{write_leads, sector_leads, sync_leads, synced_exact, lead_on, lead_from, run_on, since_on, told_at, number-overlay_same, number-overlay_part, one_sector_write}
+use Rattle.disk_model.specs.World.{World, Runs, writes_of, IsSound, Writes, HasWritten, Syncs, HasSynced, EachSince, Leads, Holds}
+use Rattle.disk_model.proofs.Laws.{write_leads, sector_leads, sync_leads, synced_exact, lead_on, lead_from, run_on, since_on, number-overlay_same, number-overlay_part, one_sector_write}
 use Rattle.image_model.specs.Clusters.{Shape, size, each, place, Who, Block, IsBlock, Use, Free, Fresh, Ready, Of, IsTaken, IsShape, IsGood, IsSafe, IsOwn, Standing, IsStanding, Moves, IsOwnCount}
 use Rattle.image_model.specs.Calls.{IsToppingUp, IsAddingBlock, IsSettling, AreExactly, Keeps, Resting, Rests, last_after}
 use Rattle.image_steps.proofs.Places.{Spares, Elsewhere, spares_more, place_next, torn_spares, within, place_same, place_some, sector_at}

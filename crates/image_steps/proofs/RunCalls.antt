@@ -1,11 +1,11 @@
 -- Calls that write data into ready clusters, and that name them.
-use Rattle.std.proofs.Common.{◌≡◌, ◌≢◌, ◌⊎◌, inl, inr, ℕ, ◌+◌, ◌*◌, ◌<◌, ◌≤◌, IsTrue, List, ◌∷◌, length, refl, sym, ◌∙◌, ap, subst, arith}
+use Rattle.std.proofs.Common.{◌≡◌, ◌⊎◌, inl, inr, ℕ, ◌+◌, ◌*◌, ◌<◌, ◌≤◌, IsTrue, List, ◌∷◌, length, refl, sym, ◌∙◌, ap, subst, arith}
 use Rattle.disk_model.specs.Files.{byte, u64_at, overlay, IsTorn}
 use Rattle.disk_model.specs.World.{World, IsSound, Writes, HasWritten, EachSince, Leads, Holds}
 use Rattle.disk_model.proofs.Laws.{write_leads, byte-overlay_in, byte-overlay_outside}
-use Rattle.image_model.specs.Clusters.{Shape, size, per, place, stored, Block, Table, Guest, IsBlock, IsTable, Use, Fresh, Spare, Ready, Of, IsBlank, SameIn, host, ShowsAs, IsGood, IsSafe, IsOwn, Standing}
-use Rattle.image_model.specs.Calls.{Keeps, LeavesGuest}
-use Rattle.image_model.specs.Runs.{IsFilling, AreFilled, Filled, HasData, IsLinking, LeavesRest, IsInSector, IsLinked, AreAsBefore, AreLinked}
+use Rattle.image_model.specs.Clusters.{Shape, size, per, place, Block, Table, Guest, IsTable, Use, Fresh, Spare, Ready, Of, IsBlank, SameIn, host, IsGood, IsSafe, IsOwn, Standing}
+use Rattle.image_model.specs.Calls.{LeavesGuest}
+use Rattle.image_model.specs.Runs.{IsFilling, AreFilled, Filled, HasData, IsLinking, LeavesRest, IsLinked, AreAsBefore, AreLinked}
 use Rattle.image_steps.proofs.Places.{Elsewhere, Spares, spared_cluster}
 use Rattle.image_steps.proofs.Good.{safe, more_safe}
 use Rattle.image_steps.proofs.Calls.{mixed_now}

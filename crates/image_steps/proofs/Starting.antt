@@ -1,10 +1,10 @@
 -- From what an opening finds to a standing.
 use Rattle.std.proofs.Common.{◌≡◌, inl, ℕ, ◌+◌, ◌≤◌, IsTrue, List, [], ◌∷◌, length, refl, sym, ◌∙◌, ap, subst, arith}
 use Rattle.disk_model.specs.Files.{overlay}
-use Rattle.disk_model.specs.World.{World, Parts, Runs, IsSound, Writes, HasWritten, Syncs, HasSynced, EachNow, EachSince, Leads, Holds}
-use Rattle.disk_model.proofs.Laws.{write_leads, sync_leads, lead_on, synced_exact, told_at, length-overlay}
-use Rattle.image_model.specs.Clusters.{Shape, place, IsGood, IsSafe, Standing, IsStanding, Moves, Block}
-use Rattle.image_model.specs.Calls.{IsOpened, IsReach, Beginning, Begins}
+use Rattle.disk_model.specs.World.{World, IsSound, Writes, HasWritten, Syncs, HasSynced, EachNow, EachSince, Leads, Holds}
+use Rattle.disk_model.proofs.Laws.{write_leads, sync_leads, lead_on, synced_exact, length-overlay}
+use Rattle.image_model.specs.Clusters.{Shape, place, IsGood, IsSafe, Standing, Block}
+use Rattle.image_model.specs.Calls.{IsOpened, IsReach, Beginning}
 use Rattle.image_steps.proofs.Opening.{role_at, role_back, same_block, fresh_from, one_block, opened_good, opened_safe, reaches, IsReaching, reaching}
 
 pub itself : (s : Shape) (next : ℕ) (file : List ℕ) → length file ≤ place s next → IsReach s next file file

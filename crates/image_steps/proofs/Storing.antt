@@ -1,10 +1,9 @@
 -- Data first, and then the entries that name it.
-use Rattle.std.proofs.Common.{◌≡◌, ℕ, ◌+◌, ◌*◌, ◌<◌, ◌≤◌, IsTrue, List, ◌∷◌, length, ◌∙◌, subst, arith}
-use Rattle.disk_model.specs.Files.{u64_at}
+use Rattle.std.proofs.Common.{ℕ, ◌+◌, ◌<◌, ◌≤◌, IsTrue, List, ◌∷◌, ◌∙◌, subst, arith}
 use Rattle.disk_model.specs.World.{World, Parts, Runs}
 use Rattle.image_model.specs.Clusters.{Shape, per, IsStanding}
 use Rattle.image_model.specs.Calls.{LeavesGuest}
-use Rattle.image_model.specs.Runs.{IsHolding, HasData, IsLinking, LeavesRest, IsInSector, IsLinked, AreAsBefore, IsStored}
+use Rattle.image_model.specs.Runs.{IsHolding, HasData, IsLinking, LeavesRest, IsLinked, AreAsBefore, IsStored}
 use Rattle.image_steps.proofs.Links.{keeps_on}
 use Rattle.image_steps.proofs.Naming.{same_host}
 use Rattle.image_steps.proofs.Standing.{stands_less}
