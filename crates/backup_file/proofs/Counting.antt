@@ -133,7 +133,7 @@ module _ (bits size : ℕ) (file : List ℕ) (form : IsForm bits size) (numbers 
       (cases_lt b blocks)))
       (λ outside. cond_above k all 1 0 0 (past_blocks k (omega (arith, short.blocks, ltb-false _ _ outside))) refl)
 
-  refcount_is : (k : ℕ) → refcount file k ≡ once k
+  pub refcount_is : (k : ℕ) → refcount file k ≡ once k
   unfolding refcount
   refcount_is k = rw (numbers.cluster_bits, numbers.refcount_table_clusters) (counted_by k)
 
@@ -166,7 +166,7 @@ module _ (bits size : ℕ) (file : List ℕ) (form : IsForm bits size) (numbers 
   is_tables k past = past_counts k (omega arith) ∙ sym (cond_above k (1 + table + blocks) (Block (k - (1 + table))) Tables Tables past refl)
 
   -- no entry of the first level names a table
-  none_at : (i : ℕ) → i < l1_needed bits size → table_at file i ≡ Ok None
+  pub none_at : (i : ℕ) → i < l1_needed bits size → table_at file i ≡ Ok None
   none_at i low =
       let large = cluster.large in
       rw (numbers.cluster_bits, numbers.l1_table_offset, tables.l1 i low) (no_table bits (omega arith))

@@ -1,5 +1,5 @@
 mod Calls
-mod Counting
+pub mod Counting
 mod Laying
 mod NewFiles
-mod Sizes
+pub mod Sizes

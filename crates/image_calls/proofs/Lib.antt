@@ -1,0 +1,3 @@
+pub mod FirstSectors
+pub mod NewFiles
+pub mod Refusing

@@ -1,0 +1,32 @@
+use Rattle.std.proofs.Common.{ℕ, ◌∷◌, List, IsTrue}
+use Rattle.std.proofs.lemmas.Result.{on_ok_weaker}
+use Rattle.disk_model.specs.World.{HasWritten}
+use Rattle.image_model.specs.Clusters.{Shape, IsSafe}
+use Rattle.image_model.specs.Runs.{IsLinking, IsHolding}
+use Rattle.image_steps.proofs.Standing.{moves_of}
+use Rattle.image_steps.proofs.RunCalls.{linked, link_leaves, link_either, link_done}
+use Rattle.image_calls.proofs.runs.link.Goals as goal
+
+pub returns-clause-moves : goal.returns-clause-moves
+returns-clause-moves g c s disks first last k n q i j is =
+    let sound = g.met.D.Depot.sound in
+    moves_of (IsSafe s (_ ∷ disks)) c.write.ensures.wrote.call.run (sound _) (λ told h. linked is (sound _) (sound _) c.write.ensures.wrote.call told h)
+
+pub returns-clause-leaves : goal.returns-clause-leaves
+returns-clause-leaves g c s disks first last k n q i j is holds told =
+    let sound = g.met.D.Depot.sound in
+    link_leaves is (sound _) (sound _) c.write.ensures.wrote.call told (holds told)
+
+pub returns-clause-either : goal.returns-clause-either
+returns-clause-either g c s disks first last k n q i j is holds told =
+    let sound = g.met.D.Depot.sound in
+    link_either is (sound _) (sound _) c.write.ensures.wrote.call told (holds told)
+
+pub returns-clause-linked : goal.returns-clause-linked
+returns-clause-linked g c =
+    let sound = g.met.D.Depot.sound in
+    on_ok_weaker c.write.result
+    (λ (done : HasWritten c.args.file.0 c.args.spot c.args.entries.now (g.D.Outside.world c.args.depot.now) (g.D.Outside.world c.write.new.depot)) (s : Shape) (disks : List (List ℕ)) (first : ℕ) (last : ℕ) (k : ℕ) (n : ℕ) (q : ℕ) (i : ℕ) (j : ℕ)
+    (is : IsLinking s first k n q i j c.args.spot c.args.file.0 c.args.entries.now (g.D.Outside.world c.args.depot.now)) (holds : IsHolding s disks k n first last c.args.file.0 (g.D.Outside.world c.args.depot.now)) (told : IsTrue (g.D.Outside.world c.args.depot.now).tells).
+    link_done is (sound _) (sound _) c.write.ensures.wrote.call told (holds told) done)
+    c.write.ensures.wrote.done

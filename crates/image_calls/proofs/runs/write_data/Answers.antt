@@ -1,0 +1,27 @@
+use Rattle.std.proofs.Common.{ℕ, List, IsTrue, length}
+use Rattle.std.proofs.lemmas.Result.{on_ok_weaker}
+use Rattle.disk_model.specs.World.{HasWritten}
+use Rattle.image_model.specs.Clusters.{Shape, IsSafe, IsStanding}
+use Rattle.image_model.specs.Runs.{IsFilling}
+use Rattle.image_steps.proofs.Standing.{moves_of}
+use Rattle.image_steps.proofs.RunCalls.{filled, fill_leaves, fill_data}
+use Rattle.image_calls.proofs.runs.write_data.Goals as goal
+
+pub returns-clause-moves : goal.returns-clause-moves
+returns-clause-moves g c s disks first last k n is =
+    let sound = g.met.D.Depot.sound in
+    moves_of (IsSafe s disks) c.write.ensures.wrote.call.run (sound _) (λ told st. filled is (sound _) (sound _) c.write.ensures.wrote.call told st)
+
+pub returns-clause-leaves : goal.returns-clause-leaves
+returns-clause-leaves g c s disks first last k n is stands told =
+    let sound = g.met.D.Depot.sound in
+    fill_leaves is (sound _) (sound _) c.write.ensures.wrote.call told (stands told)
+
+pub returns-clause-there : goal.returns-clause-there
+returns-clause-there g c =
+    let sound = g.met.D.Depot.sound in
+    on_ok_weaker c.write.result
+    (λ (done : HasWritten c.args.file.0 c.args.at c.args.bytes.now (g.D.Outside.world c.args.depot.now) (g.D.Outside.world c.write.new.depot)) (s : Shape) (disks : List (List ℕ)) (first : ℕ) (last : ℕ) (k : ℕ) (n : ℕ)
+    (is : IsFilling s first last k n c.args.at (length c.args.bytes.now) c.args.file.0 (g.D.Outside.world c.args.depot.now)) (stands : IsStanding s disks first last c.args.file.0 (g.D.Outside.world c.args.depot.now)) (told : IsTrue (g.D.Outside.world c.args.depot.now).tells).
+    fill_data is (sound _) (sound _) c.write.ensures.wrote.call told (stands told) done)
+    c.write.ensures.wrote.done

@@ -1,0 +1,41 @@
+//! Opening.
+
+ghost use Rattle.std.specs.Prelude.{◌≡◌, ℕ, List, [], ◌∷◌, ◌+◌, ◌*◌, ◌^◌, ◌<◌, ◌≤◌, length, OnOk, IsTrue};
+ghost use Rattle.file_device.specs.Calls.{Puts, Synced};
+ghost use Rattle.image_model.specs.Clusters.{Shape, place, IsSafe, IsStanding, Moves};
+ghost use Rattle.image_model.specs.Calls.{Told, IsOpened, AreInside, Begins};
+
+use disk_model::{Depot, Failed, FileNo};
+use file_device::{sync, write};
+
+/// Syncs a file that was found in order. It stands, where all that is referred to lies in it.
+pub fn begin<D: Depot>(depot: &mut D, file: FileNo) -> Result<(), Failed>
+    requires given { file.0 < (D.world depot.old).given }
+
+    ensures begins { OnOk result ((s : Shape) (next : ℕ) → Told (IsOpened s next) file.0 (D.world depot.old) → Begins s next ((D.world depot.new).seen file.0) file.0 (D.world depot.new)) }
+
+    ensures stands { OnOk result ((s : Shape) (next : ℕ) → Told (IsOpened s next) file.0 (D.world depot.old) → Told (AreInside s) file.0 (D.world depot.old) →
+        IsStanding s ((D.world depot.new).seen file.0 ∷ []) next next file.0 (D.world depot.new)) }
+
+    // Until it ends a crash leaves what it might have left before, and so where it failed.
+    ensures synced { Synced file.0 (D.world depot.old) (D.world depot.new) result }
+{
+    sync(depot, file)
+}
+
+/// Makes a file reach to the end of its last cluster.
+pub fn extend<D: Depot>(depot: &mut D, file: FileNo, finish: u64) -> Result<(), Failed>
+    requires given { file.0 < (D.world depot.old).given }
+    requires end { finish + 1 ≤ 2 ^ 62 }
+
+    ensures begins { (s : Shape) (next : ℕ) (found : List ℕ) → finish + 1 ≡ place s next → length found ≤ finish →
+        Moves file.0 (IsSafe s (found ∷ [])) (Begins s next found file.0) (Begins s next found file.0) (D.world depot.old) (D.world depot.new) }
+
+    ensures stands { OnOk result ((s : Shape) (next : ℕ) (found : List ℕ) → finish + 1 ≡ place s next → length found ≤ finish →
+        Moves file.0 (IsSafe s (found ∷ [])) (Begins s next found file.0) (IsStanding s (found ∷ []) next next file.0) (D.world depot.old) (D.world depot.new)) }
+
+    ensures puts { Puts file.0 (D.world depot.old) (D.world depot.new) result }
+{
+    write(depot, file, finish, &[0])?;
+    sync(depot, file)
+}
