@@ -15,8 +15,8 @@ longer told (b ∷ t) n some is =
     omega (arith, same, one)
 
 pub comes_after : (reading : Reading) (text : ℕ → Event → Answer → List ℕ) (source : List ℕ) (from : Cut) (move : Move) → IsMove reading text source from move → IsTrue from.world.prints → 0 < length (text move.cut.count move.event move.answer)
-    → ((n : ℕ) → move.start.printed ≡ from.told ++ take (n + 1) (text move.cut.count move.event move.answer) → ⊥) × (move.cut.world.printed ≡ from.told)
+    → ((n : ℕ) → move.start.printed ≡ (from.told ++ move.said) ++ take (n + 1) (text move.cut.count move.event move.answer) → ⊥) × (move.cut.world.printed ≡ from.told ++ move.said)
 comes_after reading text source from move step prints some = (
-  λ n is. longer from.told (text move.cut.count move.event move.answer) n some (sym (step.printed prints) ∙ is),
+  λ n is. longer (from.told ++ move.said) (text move.cut.count move.event move.answer) n some (sym (step.printed prints) ∙ is),
   (step.work.text (λ none. none)).printed ∙ step.printed prints,
 )

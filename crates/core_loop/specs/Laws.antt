@@ -35,7 +35,7 @@ abbrev pub EioNeedsFaults : Type 0
 EioNeedsFaults = (text : ℕ → Event → Answer → List ℕ) (source : List ℕ) (from : Cut) (move : Move) → IsMove IsHeldAs text source from move → from.state.machine.broken ≡ None → move.answer.reply ≡ Fault Io
     → (move.start.faults.shared < move.cut.world.faults.shared) ⊎ (2 ^ 64 - 1 ≤ move.cut.world.faults.shared)
 
--- an event that is told before it is carried out is no move: at its start and its end just the answers before it are printed
+-- an event that is told before it is carried out is no move: at its start and its end just the answers before it are printed, and what was said since
 abbrev pub AnswersComeAfter : Type 0
 AnswersComeAfter = (text : ℕ → Event → Answer → List ℕ) (source : List ℕ) (from : Cut) (move : Move) → IsMove IsHeldAs text source from move → IsTrue from.world.prints → 0 < length (text move.cut.count move.event move.answer)
-    → ((n : ℕ) → move.start.printed ≡ from.told ++ take (n + 1) (text move.cut.count move.event move.answer) → ⊥) × (move.cut.world.printed ≡ from.told)
+    → ((n : ℕ) → move.start.printed ≡ (from.told ++ move.said) ++ take (n + 1) (text move.cut.count move.event move.answer) → ⊥) × (move.cut.world.printed ≡ from.told ++ move.said)
