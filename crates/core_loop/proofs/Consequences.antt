@@ -23,7 +23,7 @@ use Rattle.plain_model.proofs.ChainLaws.{chain_gives}
 use Rattle.core_loop.specs.declared.session.Stop.{Stop}
 use Rattle.core_node.specs.Rest.{Directory, Files, State, or_marked, in_closing, first_state, IsReady, IsSafe, AreLawful, LeftLawful, LeftIn}
 use Rattle.core_node.specs.Files.{IsLawfulTarget, Reading}
-use Rattle.core_loop.specs.Course.{IsWithin, Cut, Move, AreMoves, last_cut, LeftAt, StageAt}
+use Rattle.core_loop.specs.Course.{Given, IsWithin, Cut, Move, AreMoves, last_cut, LeftAt, StageAt}
 use Rattle.core_loop.specs.Sessions.{Session, start_cut}
 use Rattle.core_loop.specs.Crashes.{IsLeftBackup, ChainsGiveDisks, SettlesLeft, WereThere, Survives}
 
@@ -186,8 +186,8 @@ history_opened : (h : History) (o : Opening) (c : Cut) (w : World) → c ≡ sta
 unfolding opened
 history_opened h o c w is history = subst (λ (x : Cut). IsHistory x.state.machine.history) (sym is) history
 
-module _ {T : Type 0} {stored : List ℕ → List StoredBitmap} {reading : Reading} {text : ℕ → Event → Answer → List ℕ} {allows : List Directory} {files : Files} {name : List ℕ} {h : History} {disks : List (List ℕ)} {result : Result T Stop} {events : List Event} {answer : Answer} {old new : World} where
-  pub survives : (session : Session stored reading text allows files name h disks result events answer old new) → IsHistory h → ((f : ℕ) → Contains files.backups f → f ≡ files.source → ⊥) → {parts : Parts} → Runs parts old new → WereThere files old
+module _ {T : Type 0} {stored : List ℕ → List StoredBitmap} {reading : Reading} {text : ℕ → Event → Answer → List ℕ} {allows : List Directory} {files : Files} {name : List ℕ} {h : History} {disks : List (List ℕ)} {result : Result T Stop} {over : List ℕ → Type 0} {given : List Given} {answer : Answer} {old new : World} where
+  pub survives : (session : Session stored reading text allows files name h disks result over given answer old new) → IsHistory h → ((f : ℕ) → Contains files.backups f → f ≡ files.source → ⊥) → {parts : Parts} → Runs parts old new → WereThere files old
       → (k : ℕ) (left : ℕ → Option (List ℕ)) → old.now ≤ k → k ≤ new.now → IsLeftAt new k left → Survives k left session
   survives (inl none) history apart run were k left low high is =
       settles_left history apart (λ f which. found_left f is (run.goes.lasts k f low high (were f which))) (none.crashes k left low high is)
@@ -198,8 +198,8 @@ module _ {T : Type 0} {stored : List ℕ → List StoredBitmap} {reading : Readi
     where
       by_moment : ((f : ℕ) → (f ≡ files.source) ⊎ Contains files.backups f → (c : List ℕ) × (left f ≡ Some c)) → IsHistory b.first.state.machine.history
           → ((k < b.first.world.now) × LeftLawful stored (or_marked allows) files h disks left)
-          ⊎ (((b.first.world.now ≤ k) × (k ≤ b.over.now) × LeftAt stored files k left b.first b.moves)
-          ⊎ ((b.over.now < k) × LeftLawful stored (in_closing (last_cut b.first b.moves).state) files (last_cut b.first b.moves).state.machine.history (last_cut b.first b.moves).state.disks left))
+          ⊎ (((b.first.world.now ≤ k) × (k ≤ b.done.now) × LeftAt stored files k left b.first b.moves)
+          ⊎ ((b.done.now < k) × LeftLawful stored (in_closing (last_cut b.first b.moves).state) files (last_cut b.first b.moves).state.machine.history (last_cut b.first b.moves).state.disks left))
           → Survives k left (inr b)
       by_moment there begins (inl here) = inl (here.0, settles_left history apart there here.1)
       by_moment there begins (inr (inl here)) =
@@ -207,7 +207,7 @@ module _ {T : Type 0} {stored : List ℕ → List StoredBitmap} {reading : Readi
           inr (inl (here.0, here.1, record { state = stage.state; counts = stage.counts; settles = settles_left stage.history_is apart there stage.lawful }))
       by_moment there begins (inr (inr here)) = inr (inr (here.0, settles_left (last_history stored reading text files name b.first b.moves begins b.steps) apart there here.1))
 
-  pub with_crashes : Session stored reading text allows files name h disks result events answer old new → AreLawful stored allows files h disks old → {parts : Parts} → Runs parts old new
-      → (session : Session stored reading text allows files name h disks result events answer old new)
+  pub with_crashes : Session stored reading text allows files name h disks result over given answer old new → AreLawful stored allows files h disks old → {parts : Parts} → Runs parts old new
+      → (session : Session stored reading text allows files name h disks result over given answer old new)
       × (WereThere files old → (k : ℕ) (left : ℕ → Option (List ℕ)) → old.now ≤ k → k ≤ new.now → IsLeftAt new k left → Survives k left session)
   with_crashes session lawful run = (session, survives session lawful.history_is lawful.apart run)

@@ -13,7 +13,7 @@ use Rattle.plain_model.specs.Lawful.{Kept}
 use Rattle.core_node.specs.Rest.{Files, State, LeftIn}
 use Rattle.core_node.specs.Files.{Reading}
 use Rattle.core_node.proofs.Rests.{kept_more}
-use Rattle.core_loop.specs.Course.{IsWithin, Cut, Move, IsMove, AreMoves, last_cut, LeftAt, texts, any_file, any_file_and_text}
+use Rattle.core_loop.specs.Course.{IsWithin, Cut, Move, IsMove, AreMoves, last_cut, LeftAt, texts, any_file, any_talk, any_call}
 use Rattle.core_node.specs.Step.{kept_during, during}
 
 -- ---- another disk that a crash may mix
@@ -42,11 +42,11 @@ pub last_more : (from : Cut) (moves : List Move) (move : Move) → last_cut from
 last_more from [] move = refl
 last_more from (m ∷ moves) move = last_more m.cut moves move
 
-pub text_within : Within only_text any_file_and_text
-text_within = record { files = λ g none. tt; reads = λ g none. tt; names = λ name none. none; text = λ is. tt; wire = λ none. none }
+pub talk_within : Within any_talk any_call
+talk_within = record { files = λ g none. tt; reads = λ g none. tt; names = λ name none. none; text = λ is. tt; wire = λ is. tt }
 
-pub any_within : Within any_file any_file_and_text
-any_within = record { files = λ g none. tt; reads = λ g none. tt; names = λ name none. none; text = λ none. tt; wire = λ none. none }
+pub any_within : Within any_file any_call
+any_within = record { files = λ g is. tt; reads = λ g is. tt; names = λ name none. none; text = λ none. tt; wire = λ none. tt }
 
 module _ (reading : Reading) (text : ℕ → Event → Answer → List ℕ) (name : List ℕ) where
   pub moves_more : (from : Cut) (moves : List Move) (move : Move) → AreMoves reading text name from moves → IsMove reading text name (last_cut from moves) move → AreMoves reading text name from (moves ++ move ∷ [])
@@ -54,9 +54,9 @@ module _ (reading : Reading) (text : ℕ → Event → Answer → List ℕ) (nam
   moves_more from (m ∷ moves) move steps step = (steps.0, moves_more m.cut moves move steps.1 step)
 
   -- over all of them nothing is touched but files and the text
-  pub moves_run : (from : Cut) (moves : List Move) → AreMoves reading text name from moves → Runs any_file_and_text from.world (last_cut from moves).world
-  moves_run from [] steps = stay any_file_and_text from.world
-  moves_run from (m ∷ moves) steps = run_on (run_more text_within steps.0.between) (run_on (run_more any_within steps.0.work) (moves_run m.cut moves steps.1))
+  pub moves_run : (from : Cut) (moves : List Move) → AreMoves reading text name from moves → Runs any_call from.world (last_cut from moves).world
+  moves_run from [] steps = stay any_call from.world
+  moves_run from (m ∷ moves) steps = run_on (run_more talk_within steps.0.between) (run_on (run_more any_within steps.0.work) (moves_run m.cut moves steps.1))
 
   pub later_cut : (from : Cut) (move : Move) → IsMove reading text name from move → from.world.now ≤ move.cut.world.now
   later_cut from move step = let a = step.between.goes.later in let b = step.work.goes.later in omega arith
@@ -75,7 +75,7 @@ module _ (reading : Reading) (text : ℕ → Event → Answer → List ℕ) (nam
   pub told_are : (from : Cut) (moves : List Move) → AreMoves reading text name from moves → (last_cut from moves).told ≡ from.told ++ texts text moves
   told_are from [] steps = sym (append-nil from.told)
   told_are from (m ∷ moves) steps =
-      told_are m.cut moves steps.1 ∙ ap (λ (t : List ℕ). t ++ texts text moves) steps.0.told_is ∙ append_assoc from.told (text m.cut.count m.event m.answer) (texts text moves)
+      told_are m.cut moves steps.1 ∙ ap (λ (t : List ℕ). t ++ texts text moves) steps.0.told_is ∙ append_assoc from.told (m.said ++ text m.cut.count m.event m.answer) (texts text moves)
 
   module _ {stored : List ℕ → List StoredBitmap} {files : Files} where
     -- a crash after all of the moves
@@ -108,8 +108,9 @@ module _ (reading : Reading) (text : ℕ → Event → Answer → List ℕ) (nam
 
 -- ---- texts
 
-pub texts_more : (text : ℕ → Event → Answer → List ℕ) (moves : List Move) (move : Move) → texts text (moves ++ move ∷ []) ≡ texts text moves ++ text move.cut.count move.event move.answer
-texts_more text [] move = append-nil (text move.cut.count move.event move.answer)
+pub texts_more : (text : ℕ → Event → Answer → List ℕ) (moves : List Move) (move : Move)
+    → texts text (moves ++ move ∷ []) ≡ texts text moves ++ (move.said ++ text move.cut.count move.event move.answer)
+texts_more text [] move = append-nil (move.said ++ text move.cut.count move.event move.answer)
 texts_more text (m ∷ moves) move =
-    ap (λ (t : List ℕ). text m.cut.count m.event m.answer ++ t) (texts_more text moves move)
-    ∙ sym (append_assoc (text m.cut.count m.event m.answer) (texts text moves) (text move.cut.count move.event move.answer))
+    let head : List ℕ = m.said ++ text m.cut.count m.event m.answer in
+    ap (λ (t : List ℕ). head ++ t) (texts_more text moves move) ∙ sym (append_assoc head (texts text moves) (move.said ++ text move.cut.count move.event move.answer))

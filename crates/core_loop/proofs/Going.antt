@@ -4,7 +4,7 @@ use Rattle.std.specs.Prelude.{Contains}
 use Rattle.std.proofs.lemmas.Bool.{cases_lt}
 use Rattle.std.proofs.lemmas.List.{map-append}
 use Rattle.disk_model.specs.Files.{IsOutcome}
-use Rattle.disk_model.specs.World.{World, Parts, Runs, versions, IsLeftAt, EachNow, EachSince, Holds, only_text, nothing}
+use Rattle.disk_model.specs.World.{World, Parts, Runs, versions, IsLeftAt, EachNow, EachSince, Holds, nothing}
 use Rattle.disk_model.proofs.Left.{left_back}
 use Rattle.disk_model.proofs.Moments.{now_since, since_now, since_on, run_on, run_more, stay, Within}
 use Rattle.disk_model.proofs.Leads.{spare_leads, lead_on}
@@ -24,9 +24,9 @@ use Rattle.core_node.specs.Standing.{Shown, StandsFor}
 use Rattle.core_node.specs.Touches.{SameSource}
 use Rattle.core_node.specs.Rest.{Directory, Files, State, in_session, IsReady, IsSafe, LeftLawful, LeftIn, StaysSealed}
 use Rattle.core_node.specs.Step.{may_land, during, NodeSteps, SealedIn, NoNewBlanks, next_of}
-use Rattle.core_loop.specs.Course.{IsWithin, Cut, Move, IsMove, AreMoves, last_cut, CrashesAfter, any_file, any_file_and_text}
+use Rattle.core_loop.specs.Course.{Given, IsWithin, Cut, Move, IsMove, AreMoves, last_cut, CrashesAfter, any_file, any_talk, any_call}
 use Rattle.core_loop.specs.Sessions.{Ran, BackupsHold, SealedSince, SealsLast}
-use Rattle.core_loop.proofs.Courses.{lawful_in_event, last_more, moves_more, moves_run, rising, after_all, within_next, before_next, later_crash, text_within}
+use Rattle.core_loop.proofs.Courses.{lawful_in_event, last_more, moves_more, moves_run, rising, after_all, within_next, before_next, later_crash, talk_within}
 
 -- ---- what a crash left, file by file
 
@@ -132,30 +132,32 @@ pub record Around (stored : List ℕ → List StoredBitmap) (files : Files) (nam
   pub safe : (s : State) → L s → HoldsIn stored after.file after.id s new
 
 -- the run and one event more
-pub record RanOneMore (stored : List ℕ → List StoredBitmap) (reading : Reading) (text : ℕ → Event → Answer → List ℕ) (files : Files) (name : List ℕ) (first : Cut) (L : Knows) (event : Event) (answer : Answer) (done : List Event) (moves : List Move) (new : World) : Type 0 where
-  pub ran : Ran stored reading text files name first L nothing (done ++ event ∷ []) new
+pub record RanOneMore (stored : List ℕ → List StoredBitmap) (reading : Reading) (text : ℕ → Event → Answer → List ℕ) (files : Files) (name : List ℕ) (first : Cut) (L : Knows) (given : Given) (answer : Answer) (done : List Given) (moves : List Move) (new : World) : Type 0 where
+  pub ran : Ran stored reading text files name first L nothing (done ++ given ∷ []) new
   pub move : Move
   pub moves_are : ran.moves ≡ moves ++ move ∷ []
   pub count_is : move.cut.count ≡ suc (last_cut first moves).count
-  pub event_is : move.event ≡ event
+  pub said_is : move.said ≡ given.said
+  pub event_is : move.event ≡ given.event
   pub answer_is : move.answer ≡ answer
 
 module _ {stored : List ℕ → List StoredBitmap} {reading : Reading} {text : ℕ → Event → Answer → List ℕ} {files : Files} {name : List ℕ} {before after : Shown} {K L : Knows} {mid new : World} (around : Around stored files name before after K L mid new)
-    {first : Cut} {event : Event} {answer : Answer} {done : List Event} (s : NodeSteps stored reading before K L mid new event answer) (r : Ran stored reading text files name first K only_text done mid)
-    (printed : IsTrue (last_cut first r.moves).world.prints → mid.printed ≡ (last_cut first r.moves).told) where
+    {first : Cut} (given : Given) {answer : Answer} {done : List Given} (s : NodeSteps stored reading before K L mid new given.event answer) (r : Ran stored reading text files name first K any_talk done mid)
+    (printed : IsTrue (last_cut first r.moves).world.prints → mid.printed ≡ (last_cut first r.moves).told ++ given.said) where
   abbrev last : Cut
   last = last_cut first r.moves
 
   abbrev next : State
-  next = next_of s.held s.trouble event answer s.store s.freed last.state
+  next = next_of s.held s.trouble given.event answer s.store s.freed last.state
 
   abbrev move : Move
   move = record {
+    said = given.said;
     start = mid;
     seen = record { held = s.held; rise = s.rise };
-    event = event;
+    event = given.event;
     answer = answer;
-    cut = record { state = next; world = new; told = last.told ++ text (suc last.count) event answer; count = suc last.count };
+    cut = record { state = next; world = new; told = last.told ++ (given.said ++ text (suc last.count) given.event answer); count = suc last.count };
   }
 
   goes_on : L next
@@ -173,7 +175,7 @@ module _ {stored : List ℕ → List StoredBitmap} {reading : Reading} {text : �
       trouble = s.trouble;
       contents = s.goes.contents last.state r.keeps;
       space = s.goes.space last.state r.keeps;
-      faults = subst (λ (n : List ℕ). StepFaults n s.rise s.trouble last.state.machine event answer) around.name_is (s.goes.faults last.state r.keeps);
+      faults = subst (λ (n : List ℕ). StepFaults n s.rise s.trouble last.state.machine given.event answer) around.name_is (s.goes.faults last.state r.keeps);
     };
     disks_are = refl;
     entries_are = refl;
@@ -190,24 +192,24 @@ module _ {stored : List ℕ → List StoredBitmap} {reading : Reading} {text : �
       length-now next.machine.history stands.sound.history_is.inside ∙ sym stands.numbers.size_is ∙ around.same.size_stays ∙ stood.numbers.size_is
 
   abbrev within : State
-  within = during last.state event (now next.machine.history)
+  within = during last.state given.event (now next.machine.history)
 
   -- the source's outcome says which of the two counts
   in_event : (k : ℕ) {left : ℕ → Option (List ℕ)} → mid.now ≤ k → k ≤ new.now → IsLeftAt new k left → (x : State) × IsWithin last move x × LeftIn stored files x left
   in_event k {left} low high is = by_source (left files.source) refl
     where
-      source : (c : List ℕ) → left files.source ≡ Some c → SafeFor stored files.id within c ⊎ (IsTrue (may_land event) × SafeFor stored files.id next c)
+      source : (c : List ℕ) → left files.source ≡ Some c → SafeFor stored files.id within c ⊎ (IsTrue (may_land given.event) × SafeFor stored files.id next c)
       source c here = moved (s.goes.crashes last.state r.keeps) k low high c (is.there files.source c here)
         where
-          moved : EachSince new mid.now before.file (λ c. IsSafe stored (in_session within) before.id within.machine.history within.disks c ⊎ (IsTrue (may_land event) × IsSafe stored (in_session next) before.id next.machine.history next.disks c))
-              → EachSince new mid.now files.source (λ c. SafeFor stored files.id within c ⊎ (IsTrue (may_land event) × SafeFor stored files.id next c))
-          moved each = subst (λ (f : ℕ). EachSince new mid.now f (λ c. SafeFor stored files.id within c ⊎ (IsTrue (may_land event) × SafeFor stored files.id next c))) (sym around.file_is)
-              (subst (λ (id : List ℕ). EachSince new mid.now before.file (λ c. IsSafe stored (in_session within) id within.machine.history within.disks c ⊎ (IsTrue (may_land event) × IsSafe stored (in_session next) id next.machine.history next.disks c))) (sym around.id_is) each)
+          moved : EachSince new mid.now before.file (λ c. IsSafe stored (in_session within) before.id within.machine.history within.disks c ⊎ (IsTrue (may_land given.event) × IsSafe stored (in_session next) before.id next.machine.history next.disks c))
+              → EachSince new mid.now files.source (λ c. SafeFor stored files.id within c ⊎ (IsTrue (may_land given.event) × SafeFor stored files.id next c))
+          moved each = subst (λ (f : ℕ). EachSince new mid.now f (λ c. SafeFor stored files.id within c ⊎ (IsTrue (may_land given.event) × SafeFor stored files.id next c))) (sym around.file_is)
+              (subst (λ (id : List ℕ). EachSince new mid.now before.file (λ c. IsSafe stored (in_session within) id within.machine.history within.disks c ⊎ (IsTrue (may_land given.event) × IsSafe stored (in_session next) id next.machine.history next.disks c))) (sym around.id_is) each)
 
-      backup : (f : ℕ) (c : List ℕ) → Contains files.backups f → left f ≡ Some c → IsLawfulTarget files.id last.state.machine.history c × (IsTrue (may_land event) → IsLawfulTarget files.id next.machine.history c)
+      backup : (f : ℕ) (c : List ℕ) → Contains files.backups f → left f ≡ Some c → IsLawfulTarget files.id last.state.machine.history c × (IsTrue (may_land given.event) → IsLawfulTarget files.id next.machine.history c)
       backup f c named here =
           (subst (λ (id : List ℕ). Holds f (IsLawfulTarget id last.state.machine.history) (IsLawfulTarget id last.state.machine.history) mid
-          → EachSince new mid.now f (λ c. IsLawfulTarget id last.state.machine.history c × (IsTrue (may_land event) → IsLawfulTarget id next.machine.history c))) (sym around.id_is)
+          → EachSince new mid.now f (λ c. IsLawfulTarget id last.state.machine.history c × (IsTrue (may_land given.event) → IsLawfulTarget id next.machine.history c))) (sym around.id_is)
           (s.goes.lawful last.state f r.keeps).since (r.backups f named)) k low high c (is.there f c here)
 
       before_it : ((c : List ℕ) → left files.source ≡ Some c → SafeFor stored files.id within c) → (x : State) × IsWithin last move x × LeftIn stored files x left
@@ -220,7 +222,7 @@ module _ {stored : List ℕ → List StoredBitmap} {reading : Reading} {text : �
           differ e = absurd (cc)
       by_source (Some c) here = ⊎_elim
           (λ (safe : SafeFor stored files.id within c). before_it (λ d there. subst (SafeFor stored files.id within) (same there) safe))
-          (λ (lands : IsTrue (may_land event) × SafeFor stored files.id next c). (
+          (λ (lands : IsTrue (may_land given.event) × SafeFor stored files.id next c). (
             next,
             inr (lands.0, refl),
             record {
@@ -251,7 +253,7 @@ module _ {stored : List ℕ → List StoredBitmap} {reading : Reading} {text : �
 
   crashes_on : CrashesAfter stored files first (r.moves ++ move ∷ []) new
   crashes_on k left low high is = elim (cases_lt k mid.now) [
-    | inl before ↦ before_next reading text name k first r.moves move (omega (arith, before, around.run.goes.later)) (lawful_in_event last.state event (now next.machine.history) as_long)
+    | inl before ↦ before_next reading text name k first r.moves move (omega (arith, before, around.run.goes.later)) (lawful_in_event last.state given.event (now next.machine.history) as_long)
         (r.crashes k left low (omega arith) (left_back around.run (omega arith) is))
     | inr since ↦ elim (cases_lt k new.now) [
       | inl within ↦ within_next reading text name k first r.moves move r.steps (omega (arith, r.reached.goes.later, since)) within (in_event k since high is)
@@ -272,34 +274,34 @@ module _ {stored : List ℕ → List StoredBitmap} {reading : Reading} {text : �
       (λ j there done. sealed_in new files.id last.state.machine j (new.found j.target) refl
       (subst (λ (id : List ℕ). SealedIn new id last.state.machine j (new.found j.target)) (sym around.id_is) (s.goes.sealed last.state j r.keeps there done)))
 
-  ran_on : Ran stored reading text files name first L nothing (done ++ event ∷ []) new
+  ran_on : Ran stored reading text files name first L nothing (done ++ given ∷ []) new
   ran_on = record {
     moves = r.moves ++ move ∷ [];
     steps = moves_more reading text name first r.moves move r.steps is_move;
-    events_are = map-append (λ (m : Move). m.event) r.moves (move ∷ []) ∙ ap (λ (es : List Event). es ++ event ∷ []) r.events_are;
+    given_are = map-append (λ (m : Move). record { said = m.said; event = m.event }) r.moves (move ∷ []) ∙ ap (λ (gs : List Given). gs ++ given ∷ []) r.given_are;
     keeps = subst (λ (c : Cut). L c.state) (sym (last_more first r.moves move)) goes_on;
     backups = subst (λ (c : Cut). BackupsHold files c.state.machine new) (sym (last_more first r.moves move)) backups_on;
     crashes = crashes_on;
     sealed = seals;
-    stays = stays_on (run_on (moves_run reading text name first r.moves r.steps) (run_more text_within r.reached)) around.run r.stays stays;
+    stays = stays_on (run_on (moves_run reading text name first r.moves r.steps) (run_more talk_within r.reached)) around.run r.stays stays;
     blanks = blanks_on first.world mid new r.blanks (s.goes.blanks last.state r.keeps);
     reached = subst (λ (c : Cut). Runs nothing c.world new) (sym (last_more first r.moves move)) (stay nothing new);
   }
 
-  pub went_on : RanOneMore stored reading text files name first L event answer done r.moves new
+  pub went_on : RanOneMore stored reading text files name first L given answer done r.moves new
   unfolding ran_on
-  went_on = record { ran = ran_on; move = move; moves_are = refl; count_is = refl; event_is = refl; answer_is = refl }
+  went_on = record { ran = ran_on; move = move; moves_are = refl; count_is = refl; said_is = refl; event_is = refl; answer_is = refl }
 
 -- ---- calls that spare the files
 
-module _ {stored : List ℕ → List StoredBitmap} {reading : Reading} {text : ℕ → Event → Answer → List ℕ} {files : Files} {name : List ℕ} {K L : Knows} {first : Cut} {done : List Event} {before parts others : Parts} {mid new : World} where
-  pub spared_on : IsTrue new.tells → Runs parts mid new → Within parts any_file_and_text → ((f : ℕ) → parts.files f → ⊥) → ((name : List ℕ) → parts.names name → ⊥)
-      → ((s : State) → K s → L s) → (r : Ran stored reading text files name first K before done mid) → Within before any_file_and_text → Runs others (last_cut first r.moves).world new → (q : Ran stored reading text files name first L others done new) × (q.moves ≡ r.moves)
+module _ {stored : List ℕ → List StoredBitmap} {reading : Reading} {text : ℕ → Event → Answer → List ℕ} {files : Files} {name : List ℕ} {K L : Knows} {first : Cut} {done : List Given} {before parts others : Parts} {mid new : World} where
+  pub spared_on : IsTrue new.tells → Runs parts mid new → Within parts any_call → ((f : ℕ) → parts.files f → ⊥) → ((name : List ℕ) → parts.names name → ⊥)
+      → ((s : State) → K s → L s) → (r : Ran stored reading text files name first K before done mid) → Within before any_call → Runs others (last_cut first r.moves).world new → (q : Ran stored reading text files name first L others done new) × (q.moves ≡ r.moves)
   spared_on told run within no_files no_names more r before_within reached = (
     record {
       moves = r.moves;
       steps = r.steps;
-      events_are = r.events_are;
+      given_are = r.given_are;
       keeps = more (last_cut first r.moves).state r.keeps;
       backups = λ f named. (spare_leads f _ _ run (no_files f)).after (r.backups f named);
       crashes = λ k left low high is. elim (cases_lt mid.now k) [

@@ -17,7 +17,7 @@ use Rattle.core_node.specs.Rest.{Directory, Files, Allows, Mixes, directory_of, 
 use Rattle.core_node.specs.Step.{NoNewBlanks}
 use Rattle.core_node.specs.Ends.{NodeBegins, Opened, OpensWithin}
 use Rattle.core_node.proofs.Rests.{Sub, allows_left, allows_found, ready_more, safe_more, one_kind, ready_is_safe, mixes_keep}
-use Rattle.core_loop.specs.Course.{any_file_and_text}
+use Rattle.core_loop.specs.Course.{any_call}
 use Rattle.core_loop.specs.Sessions.{Starts, Covers}
 use Rattle.core_loop.proofs.Going.{Knows, left_since}
 
@@ -133,5 +133,5 @@ node_begins {stored} {allows} {files} {h} {disks} {shown} {K} {file} {old} {new}
 pub call_of : {stored : List ℕ → List StoredBitmap} (files : Files) {file : ℕ} {old new : World} → files.source ≡ file → OpenCall stored file old new → OpenCall stored files.source old new
 call_of {stored} files {file} {old} {new} is call = subst (λ (f : ℕ). OpenCall stored f old new) (sym is) call
 
-pub file_within : (f : ℕ) → Within (only_file f) any_file_and_text
-file_within f = record { files = λ g is. tt; reads = λ g is. tt; names = λ name none. none; text = λ none. tt; wire = λ none. none }
+pub file_within : (f : ℕ) → Within (only_file f) any_call
+file_within f = record { files = λ g is. tt; reads = λ g is. tt; names = λ name none. none; text = λ none. tt; wire = λ none. tt }

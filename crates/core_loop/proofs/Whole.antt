@@ -14,16 +14,16 @@ use Rattle.core_node.specs.Standing.{Shown, StandsFor}
 use Rattle.core_node.specs.Touches.{SameSource}
 use Rattle.core_node.specs.Rest.{Directory, Files, State, or_marked, closed_directory, in_session, in_closing, first_state, AreLawful, LeftLawful, Mixes, StaysSealed}
 use Rattle.core_node.specs.Files.{IsLawfulTarget, Reading}
-use Rattle.core_loop.specs.Course.{Cut, last_cut, LeftAt, texts, any_file_and_text}
+use Rattle.core_loop.specs.Course.{Given, Cut, last_cut, LeftAt, texts, any_call}
 use Rattle.core_node.specs.Ends.{NodeBegins, Closes, Closed}
-use Rattle.core_loop.specs.Sessions.{BackupsHold, RanEvents, Printed, Begun, OwesAll, OwesTexts, StoppedIn, start_cut}
+use Rattle.core_loop.specs.Sessions.{BackupsHold, RanEvents, Says, Begun, OwesAll, OwesTexts, StoppedIn, start_cut}
 use Rattle.core_node.proofs.Rests.{Sub, allows_left, ready_more, safe_more}
 use Rattle.core_loop.proofs.Courses.{moves_run}
 use Rattle.core_loop.proofs.Going.{Knows, HoldsIn, left_since, seals_on, stays_on}
 use Rattle.core_loop.proofs.Looping.{reads_within}
 use Rattle.core_loop.proofs.Opening.{OpenCall, opens_within, open_crashes, open_stays, source_stays, file_within}
 use Rattle.core_loop.specs.declared.events.Halt.{Halt}
-use Rattle.core_loop.specs.declared.events.Halt.TheVariants.{Memory, Fault}
+use Rattle.core_loop.specs.declared.events.Halt.TheVariants.{Memory, Fault, Lost}
 use Rattle.core_loop.specs.declared.session.Stop.{Stop}
 use Rattle.core_loop.specs.declared.session.Stop.TheVariants.{Halted}
 
@@ -34,17 +34,17 @@ begin_state {h = h} begins = first_state h (record begins.opening { taken = begi
 pub moved_to : (P : ℕ → List ℕ → Type 0) {f g : ℕ} {i j : List ℕ} → f ≡ g → i ≡ j → P f i → P g j
 moved_to P {f} {g} {i} {j} file id has = subst (λ (x : ℕ). P x j) file (subst (λ (y : List ℕ). P f y) id has)
 
-module _ {stored : List ℕ → List StoredBitmap} {reading : Reading} {text : ℕ → Event → Answer → List ℕ} {allows : List Directory} {files : Files} {name : List ℕ} {h : History} {disks : List (List ℕ)} {events : List Event} {shown after : Shown} {K L : Knows} {old mid new : World}
+module _ {stored : List ℕ → List StoredBitmap} {reading : Reading} {text : ℕ → Event → Answer → List ℕ} {allows : List Directory} {files : Files} {name : List ℕ} {h : History} {disks : List (List ℕ)} {given : List Given} {over : List ℕ → Type 0} {shown after : Shown} {K L : Knows} {old mid new : World}
     (call : OpenCall stored files.source old mid) (lawful : AreLawful stored allows files h disks old) (told : IsTrue old.tells) (file_is : shown.file ≡ files.source) (begins : NodeBegins stored allows shown K files.source files.id h old mid)
     (same : SameSource shown after) (stands : (s : State) → L s → StandsFor after new s.machine) (safe : (s : State) → L s → HoldsIn stored after.file after.id s new) (mixes : (s : State) → L s → Mixes s.machine.history s.disks)
-    {E : Type 0} {halt : Result E Halt} {done : Bool} (r : RanEvents stored reading text files name (begin_state begins) L halt done events mid new) where
+    {E : Type 0} {halt : Result E Halt} {done : Bool} (r : RanEvents stored reading text files name (begin_state begins) L halt done over given mid new) where
   abbrev first : Cut
   first = start_cut (begin_state begins) mid
 
   abbrev pub last : Cut
   last = last_cut first r.ran.moves
 
-  run : Runs any_file_and_text mid new
+  run : Runs any_call mid new
   run = run_on (moves_run reading text name first r.ran.moves r.ran.steps) (run_more reads_within r.ran.reached)
 
   pub file_same : after.file ≡ files.source
@@ -92,15 +92,18 @@ module _ {stored : List ℕ → List StoredBitmap} {reading : Reading} {text : �
     close_stays : StaysSealed new end
     close_stays = source_stays close told_new (source_rests.seen told_new)
 
-    printed_here : Printed text mid new r.ran.moves → Printed text old end r.ran.moves
-    printed_here all prints = (close.text (λ none. none)).printed ∙ all (subst IsTrue (sym call.run.goes.prints) prints) ∙ ap (λ (p : List ℕ). p ++ texts text r.ran.moves) ((call.run.text (λ none. none)).printed)
+    printed_here : Says (texts text r.ran.moves ++ r.rest) mid new → Says (texts text r.ran.moves ++ r.rest) old end
+    printed_here all = record {
+      printed = λ prints. (close.text (λ none. none)).printed ∙ all.printed (subst IsTrue (sym call.run.goes.prints) prints)
+          ∙ ap (λ (p : List ℕ). p ++ (texts text r.ran.moves ++ r.rest)) (call.run.text (λ none. none)).printed;
+    }
 
     pub has_begun : {T : Type 0} {result : Result T Stop} {answer : Answer} → (OwesTexts result → OwesAll halt) → (IsOk result → IsOk halt) → (IsOk result → IsTrue done → IsTrue last.state.machine.ended)
-        → (IsOk result → Closed stored files.source files.id last.state new end answer) → StoppedIn result files.source last.state last.world new end → Begun stored reading text allows files name h disks result events answer old end
+        → (IsOk result → Closed stored files.source files.id last.state new end answer) → StoppedIn result files.source last.state last.world new end → Begun stored reading text allows files name h disks result over given answer old end
     has_begun owes ok ends closed stopped = record {
       opening = begins.opening;
       taken = begins.taken;
-      given = begins.given;
+      freed = begins.given;
       finds = begins.finds;
       entries_are = begins.entries_are;
       allowed = begins.allowed;
@@ -116,13 +119,15 @@ module _ {stored : List ℕ → List StoredBitmap} {reading : Reading} {text : �
       n = r.n;
       moves = r.ran.moves;
       steps = r.ran.steps;
-      events_are = r.ran.events_are;
-      over = new;
+      given_are = r.ran.given_are;
+      most = r.most;
+      last_said = r.rest;
+      done = new;
       reached = r.ran.reached;
       close_run = close;
       printed = λ prints.
           let part = r.in_part (subst IsTrue (sym call.run.goes.prints) prints) in
-          (part.0, (close.text (λ none. none)).printed ∙ part.1 ∙ ap (λ (p : List ℕ). p ++ take part.0 (texts text r.ran.moves)) ((call.run.text (λ none. none)).printed));
+          (part.0, (close.text (λ none. none)).printed ∙ part.1 ∙ ap (λ (p : List ℕ). p ++ take part.0 (texts text r.ran.moves ++ r.rest)) (call.run.text (λ none. none)).printed);
       owed = λ owe. printed_here (r.printed (owes owe));
       crashes = crashes_to_end;
       sealed = seals_on reading text name files.id told_end close (λ name none. none) close_stays first r.ran.moves r.ran.steps r.ran.reached.goes.later r.ran.sealed;
@@ -135,7 +140,9 @@ module _ {stored : List ℕ → List StoredBitmap} {reading : Reading} {text : �
         backups = backups_end;
       };
       between = λ well. r.between (ok well);
-      all = λ well. ⊎_elim (λ (every : r.n ≡ length events). inl every) (λ (over : IsTrue done). inr (ends well over)) (r.all (ok well));
+      all = λ well.
+          let every = r.all (ok well) in
+          (every.0, ⊎_elim (λ (none : over r.rest). inl none) (λ (ended : IsTrue done × (r.rest ≡ [])). inr (ends well ended.0, ended.1)) every.1);
       closed = closed;
       stopped = stopped;
     }
@@ -150,9 +157,10 @@ module _ {stored : List ℕ → List StoredBitmap} {reading : Reading} {text : �
     rest = record { seen = λ told. ready_more in_both (source_rests.seen told); each = λ c left. safe_more in_both (source_rests.each c left) };
   }
 
-  pub has_stopped : {T : Type 0} {result : Result T Stop} {answer : Answer} → (OwesTexts result → OwesAll halt) → (IsOk result → ⊥) → StoppedIn result files.source last.state last.world new new → Begun stored reading text allows files name h disks result events answer old new
+  pub has_stopped : {T : Type 0} {result : Result T Stop} {answer : Answer} → (OwesTexts result → OwesAll halt) → (IsOk result → ⊥) → StoppedIn result files.source last.state last.world new new → Begun stored reading text allows files name h disks result over given answer old new
   has_stopped owes ill stopped = has_begun (stay (only_file files.source) new) stays_closed owes (λ well. absurd (ill well)) (λ well. absurd (ill well)) (λ well. absurd (ill well)) stopped
 
 pub owes_halted : (T S : Type 0) (why : Halt) → OwesTexts {T = T} (Err (Halted why)) → OwesAll {T = S} (Err why)
 owes_halted T S Memory owes = tt
 owes_halted T S Fault owes = owes
+owes_halted T S Lost owes = tt

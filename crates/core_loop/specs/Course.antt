@@ -1,6 +1,6 @@
 -- How a session went: the state after each event, the world at it, and what is to be printed by then.
-use Rattle.std.specs.Prelude.{◌≡◌, ◌⊎◌, ℕ, suc, ◌<◌, ◌≤◌, List, [], ◌∷◌, ◌++◌, false, IsTrue, Option}
-use Rattle.disk_model.specs.World.{World, Parts, Runs, only_text, IsLeftAt}
+use Rattle.std.specs.Prelude.{◌≡◌, ◌⊎◌, ℕ, suc, ◌<◌, ◌≤◌, List, [], ◌∷◌, ◌++◌, map, false, IsTrue, Option}
+use Rattle.disk_model.specs.World.{World, Parts, Runs, IsLeftAt}
 use Rattle.bitmap_model.specs.Bitmap.{StoredBitmap}
 use Rattle.core_events.specs.Events.{Event}
 use Rattle.core_events.specs.Answers.{Answer}
@@ -16,15 +16,27 @@ use Rattle.core_node.specs.Step.{IsRise, may_land, kept_after, during}
 abbrev pub any_file : Parts
 any_file = record { files = λ f. Unit {0}; reads = λ f. Unit {0}; names = λ name. ⊥; text = ⊥; wire = ⊥ }
 
--- and calls that print
-abbrev pub any_file_and_text : Parts
-any_file_and_text = record { files = λ f. Unit {0}; reads = λ f. Unit {0}; names = λ name. ⊥; text = Unit {0}; wire = ⊥ }
+-- calls that print, send and take what was sent
+abbrev pub any_talk : Parts
+any_talk = record { files = λ f. ⊥; reads = λ f. ⊥; names = λ name. ⊥; text = Unit {0}; wire = Unit {0} }
 
--- calls that read files or print
-abbrev pub reads_and_text : Parts
-reads_and_text = record { files = λ f. ⊥; reads = λ f. Unit {0}; names = λ name. ⊥; text = Unit {0}; wire = ⊥ }
+-- and calls that read files
+abbrev pub reads_and_talk : Parts
+reads_and_talk = record { files = λ f. ⊥; reads = λ f. Unit {0}; names = λ name. ⊥; text = Unit {0}; wire = Unit {0} }
+
+-- all of these
+abbrev pub any_call : Parts
+any_call = record { files = λ f. Unit {0}; reads = λ f. Unit {0}; names = λ name. ⊥; text = Unit {0}; wire = Unit {0} }
 
 -- ---- a course
+
+-- an event that was given, and what was printed before it, since the answer to the one before it
+pub record Given : Type 0 where
+  pub said : List ℕ
+  pub event : Event
+
+abbrev pub asked : List Given → List Event
+asked given = map (λ (g : Given). g.event) given
 
 -- A moment between two events, before the answer to the first of them is told: the state, the world, what is to be printed before the
 -- next event, and how many events were carried out.
@@ -34,19 +46,21 @@ pub record Cut : Type 0 where
   pub told : List ℕ
   pub count : ℕ
 
--- the world at the event's start, what the event met, what it was, what it was answered, and the cut after it
+-- what was printed before an event, the world at its start, what it met, what it was, what it was answered, and the cut after it
 pub record Move : Type 0 where
+  pub said : List ℕ
   pub start : World
   pub seen : Seen
   pub event : Event
   pub answer : Answer
   pub cut : Cut
 
--- The event was a step of the machine whose source has this name. Between the cut before it and its start nothing but the answers before it
--- was printed, and all of these; within it nothing is printed. What the depot held is what the reading of files gives at its start, and counts rose from its start to its end.
+-- The event was a step of the machine whose source has this name. Between the cut before it and its start no file is touched, and all answers before
+-- it and what is said besides are printed; within it nothing is printed. What the depot held is what the reading of files gives at its start, and
+-- counts rose from its start to its end.
 pub record IsMove (reading : Reading) (text : ℕ → Event → Answer → List ℕ) (source : List ℕ) (from : Cut) (move : Move) : Type 0 where
-  pub between : Runs only_text from.world move.start
-  pub printed : IsTrue from.world.prints → move.start.printed ≡ from.told
+  pub between : Runs any_talk from.world move.start
+  pub printed : IsTrue from.world.prints → move.start.printed ≡ from.told ++ move.said
   pub work : Runs any_file move.start move.cut.world
   pub held_is : AreHeld reading move.start move.event move.seen.held
   pub rises : IsRise move.start move.cut.world move.seen.rise
@@ -55,7 +69,7 @@ pub record IsMove (reading : Reading) (text : ℕ → Event → Answer → List 
   pub disks_are : move.cut.state.disks ≡ kept_after from.state.disks move.event move.answer (now move.cut.state.machine.history)
   pub entries_are : move.cut.state.entries ≡ from.state.entries
   pub count_is : move.cut.count ≡ suc from.count
-  pub told_is : move.cut.told ≡ from.told ++ text move.cut.count move.event move.answer
+  pub told_is : move.cut.told ≡ from.told ++ (move.said ++ text move.cut.count move.event move.answer)
   pub history_is : IsHistory move.cut.state.machine.history
 
 abbrev pub AreMoves : Reading → (ℕ → Event → Answer → List ℕ) → List ℕ → Cut → List Move → Type 0
@@ -79,10 +93,10 @@ LeftAt stored files k left from (move ∷ moves) =
     ((k < move.cut.world.now) × ((s : State) × IsWithin from move s × LeftIn stored files s left))
     ⊎ ((move.cut.world.now ≤ k) × LeftAt stored files k left move.cut moves)
 
--- the texts of their answers
+-- what was said before each, and the text of its answer
 abbrev pub texts : (ℕ → Event → Answer → List ℕ) → List Move → List ℕ
 texts text [] = []
-texts text (move ∷ moves) = text move.cut.count move.event move.answer ++ texts text moves
+texts text (move ∷ moves) = (move.said ++ text move.cut.count move.event move.answer) ++ texts text moves
 
 -- ---- crashes
 

@@ -16,7 +16,7 @@ use Rattle.core_node.specs.Files.{Reading}
 use Rattle.image_model.specs.Images.{IsBackupOf}
 use Rattle.core_node.specs.Rest.{Directory, Files, State, or_marked, in_session, in_closing, AreLawful}
 use Rattle.core_loop.specs.declared.session.Stop.{Stop}
-use Rattle.core_loop.specs.Course.{Cut, Move, StageAt, last_cut}
+use Rattle.core_loop.specs.Course.{Given, Cut, Move, StageAt, last_cut}
 use Rattle.core_loop.specs.Sessions.{Session}
 
 -- ---- chains
@@ -69,10 +69,10 @@ pub record SettlesAt (stored : List ℕ → List StoredBitmap) (files : Files) (
 -- each chain gives the disk at its last point, each bitmap that is trusted covers its span, each sector of the disk is one that may be kept,
 -- and the next session may begin. The directory is that of the moment: in an opening as it was or marked, then that of the session, in a
 -- closing that or what the closing stores.
-abbrev pub Survives : {T : Type 0} {stored : List ℕ → List StoredBitmap} {reading : Reading} {text : ℕ → Event → Answer → List ℕ} {allows : List Directory} {files : Files} {name : List ℕ} {h : History} {disks : List (List ℕ)} {result : Result T Stop} {events : List Event} {answer : Answer} {old new : World}
-    → ℕ → (ℕ → Option (List ℕ)) → Session stored reading text allows files name h disks result events answer old new → Type 0
+abbrev pub Survives : {T : Type 0} {stored : List ℕ → List StoredBitmap} {reading : Reading} {text : ℕ → Event → Answer → List ℕ} {allows : List Directory} {files : Files} {name : List ℕ} {h : History} {disks : List (List ℕ)} {result : Result T Stop} {over : List ℕ → Type 0} {given : List Given} {answer : Answer} {old new : World}
+    → ℕ → (ℕ → Option (List ℕ)) → Session stored reading text allows files name h disks result over given answer old new → Type 0
 Survives {stored = stored} {allows = allows} {files = files} {h = h} {disks = disks} k left (inl none) = SettlesLeft stored (or_marked allows) files h disks left
 Survives {stored = stored} {allows = allows} {files = files} {h = h} {disks = disks} k left (inr b) =
     ((k < b.first.world.now) × SettlesLeft stored (or_marked allows) files h disks left)
-    ⊎ (((b.first.world.now ≤ k) × (k ≤ b.over.now) × SettlesAt stored files k left b.first b.moves)
-    ⊎ ((b.over.now < k) × SettlesLeft stored (in_closing (last_cut b.first b.moves).state) files (last_cut b.first b.moves).state.machine.history (last_cut b.first b.moves).state.disks left))
+    ⊎ (((b.first.world.now ≤ k) × (k ≤ b.done.now) × SettlesAt stored files k left b.first b.moves)
+    ⊎ ((b.done.now < k) × SettlesLeft stored (in_closing (last_cut b.first b.moves).state) files (last_cut b.first b.moves).state.machine.history (last_cut b.first b.moves).state.disks left))

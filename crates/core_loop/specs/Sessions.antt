@@ -1,6 +1,6 @@
 -- What has to stand before a run of events, and what it leaves.
-use Rattle.std.specs.Prelude.{◌≡◌, ◌⊎◌, ℕ, ◌-◌, ◌^◌, ◌<◌, ◌≤◌, List, [], ◌∷◌, ◌++◌, length, take, map, Bool, true, Option, Some, None, Result, Ok, Err, IsOk, IsTrue, Contains}
-use Rattle.disk_model.specs.World.{World, Parts, Runs, only_file, only_text, EachSince, Holds, IsLeftAt, Rose}
+use Rattle.std.specs.Prelude.{◌≡◌, ◌⊎◌, ℕ, ◌+◌, ◌-◌, ◌^◌, ◌<◌, ◌≤◌, List, [], ◌∷◌, ◌++◌, length, take, map, Bool, true, false, Option, Some, None, Result, Ok, Err, IsOk, IsTrue, Contains}
+use Rattle.disk_model.specs.World.{World, Parts, Runs, only_file, PrintsPart, EachSince, Holds, IsLeftAt, Rose}
 use Rattle.bitmap_model.specs.Bitmap.{StoredBitmap}
 use Rattle.core_events.specs.Events.{Event}
 use Rattle.core_events.specs.Answers.{Answer}
@@ -13,11 +13,11 @@ use Rattle.core_node.specs.Files.{event_starts_on, IsLawfulTarget, Reading}
 use Rattle.image_model.specs.Images.{IsTargetOf, IsBackupOf}
 use Rattle.core_node.specs.Standing.{Shown}
 use Rattle.core_node.specs.Rest.{FindsOpening, Directory, Files, State, first_state, directory_of, or_marked, in_closing, Allows, AreLawful, LeftLawful, StaysSealed}
-use Rattle.core_loop.specs.Course.{Cut, Move, AreMoves, last_cut, texts, LeftAt, CrashesAfter, reads_and_text}
+use Rattle.core_loop.specs.Course.{Given, Cut, Move, AreMoves, last_cut, texts, LeftAt, CrashesAfter, any_talk, reads_and_talk}
 use Rattle.core_node.specs.Step.{NoNewBlanks}
 use Rattle.core_node.specs.Ends.{OpensWithin, Closed, NotOpenedFor, NotClosedFor, NotClosedBy}
 use Rattle.core_loop.specs.declared.events.Halt.{Halt}
-use Rattle.core_loop.specs.declared.events.Halt.TheVariants.{Memory, Fault}
+use Rattle.core_loop.specs.declared.events.Halt.TheVariants.{Memory, Fault, Lost}
 use Rattle.core_loop.specs.declared.session.Stop.{Stop}
 use Rattle.core_loop.specs.declared.session.Stop.TheVariants.{NotOpened, Halted, NotClosed}
 
@@ -42,8 +42,8 @@ pub record Starts (files : Files) (shown : Shown) (knows : State → Type 0) (ev
 abbrev pub start_cut : State → World → Cut
 start_cut s w = record { state = s; world = w; told = w.printed; count = 0 }
 
-abbrev pub events_of : List Move → List Event
-events_of moves = map (λ (move : Move). move.event) moves
+abbrev pub givens_of : List Move → List Given
+givens_of moves = map (λ (move : Move). record { said = move.said; event = move.event }) moves
 
 -- The target's file of a job was sealed before this moment, and each crash since then leaves it so.
 pub record SealedSince (w : World) (id : List ℕ) (m : Machine) (j : Job) (moment : ℕ) : Type 0 where
@@ -63,10 +63,10 @@ SealsLast w id from (move ∷ moves) =
 
 -- These events were carried out as the plain machine does, and each crash since the start left the files lawful for the history before it.
 -- The node stands for the state after them, and so it can go on. From the last cut on there were calls on these parts alone.
-pub record Ran (stored : List ℕ → List StoredBitmap) (reading : Reading) (text : ℕ → Event → Answer → List ℕ) (files : Files) (name : List ℕ) (first : Cut) (keeping : State → Type 0) (parts : Parts) (events : List Event) (w : World) : Type 0 where
+pub record Ran (stored : List ℕ → List StoredBitmap) (reading : Reading) (text : ℕ → Event → Answer → List ℕ) (files : Files) (name : List ℕ) (first : Cut) (keeping : State → Type 0) (parts : Parts) (given : List Given) (w : World) : Type 0 where
   pub moves : List Move
   pub steps : AreMoves reading text name first moves
-  pub events_are : events_of moves ≡ events
+  pub given_are : givens_of moves ≡ given
   pub keeps : keeping (last_cut first moves).state
   pub backups : BackupsHold files (last_cut first moves).state.machine w
   pub crashes : CrashesAfter stored files first moves w
@@ -77,11 +77,9 @@ pub record Ran (stored : List ℕ → List StoredBitmap) (reading : Reading) (te
 
 -- ---- what was printed
 
-abbrev pub Printed : (ℕ → Event → Answer → List ℕ) → World → World → List Move → Type 0
-Printed text old new moves = IsTrue old.prints → new.printed ≡ old.printed ++ texts text moves
-
-abbrev pub PrintedInPart : (ℕ → Event → Answer → List ℕ) → World → World → List Move → Type 0
-PrintedInPart text old new moves = IsTrue old.prints → (n : ℕ) × (new.printed ≡ old.printed ++ take n (texts text moves))
+-- where it is told, this text was printed
+pub record Says (text : List ℕ) (old new : World) : Type 0 where
+  pub printed : IsTrue old.prints → new.printed ≡ old.printed ++ text
 
 -- a print failed
 abbrev pub PrintFailed : World → World → Type 0
@@ -94,25 +92,60 @@ abbrev pub OwesAll : {T : Type 0} → Result T Halt → Type 0
 OwesAll (Ok x) = Unit {0}
 OwesAll (Err Memory) = Unit {0}
 OwesAll (Err Fault) = ⊥
+OwesAll (Err Lost) = Unit {0}
 
+-- a print failed; another call of what gives the events failed
 abbrev pub HaltedFor : Halt → World → World → Type 0
 HaltedFor Memory old new = Unit {0}
 HaltedFor Fault old new = PrintFailed old new
+HaltedFor Lost old new = Rose old.faults.shared new.faults.shared
 
 -- it failed after the last event
 abbrev pub HaltedIn : {T : Type 0} → Result T Halt → World → World → Type 0
 HaltedIn (Ok x) last new = Unit {0}
 HaltedIn (Err why) last new = HaltedFor why last new
 
--- Events were carried out from a state on: the first n of these, and all of them where the run ended well and nothing ended the machine.
+-- ---- what gives events
+
+-- one more was given
+pub record GivesOne (gives : Event → Type 0) (gave more : List Given) (held : Option Event) (before after : ℕ) (old new : World) : Type 0 where
+  pub given : Given
+  pub more_is : more ≡ gave ++ given ∷ []
+  pub held_is : held ≡ Some given.event
+  pub may : gives given.event
+  pub fewer : after < before
+  pub said : Says given.said old new
+
+-- nothing more comes, after this was printed
+pub record GivesNone (over : List ℕ → Type 0) (gave more : List Given) (old new : World) : Type 0 where
+  pub rest : List ℕ
+  pub more_is : more ≡ gave
+  pub is_over : over rest
+  pub said : Says rest old new
+
+-- what a look for the next event came to: whether there is one
+pub record Gives (there : Bool) (gives : Event → Type 0) (over : List ℕ → Type 0) (gave more : List Given) (held : Option Event) (before after : ℕ) (old new : World) : Type 0 where
+  pub one : IsTrue there → GivesOne gives gave more held before after old new
+  pub none : there ≡ false → GivesNone over gave more old new
+
+-- ---- the events of a run
+
+-- It ended since nothing more came, after this was printed, or since an event ended the machine.
+abbrev pub IsAtEnd : (List ℕ → Type 0) → Bool → List ℕ → Type 0
+IsAtEnd over ended rest = over rest ⊎ (IsTrue ended × (rest ≡ []))
+
+-- Events were carried out from a state on: the first n of those that were given. All but one were, and all of them where the run ended well. After
+-- their texts a rest was printed.
 pub record RanEvents {T : Type 0} (stored : List ℕ → List StoredBitmap) (reading : Reading) (text : ℕ → Event → Answer → List ℕ) (files : Files) (name : List ℕ) (s : State) (keeping : State → Type 0)
-    (result : Result T Halt) (ended : Bool) (events : List Event) (old new : World) : Type 0 where
+    (result : Result T Halt) (ended : Bool) (over : List ℕ → Type 0) (given : List Given) (old new : World) : Type 0 where
   pub n : ℕ
-  pub ran : Ran stored reading text files name (start_cut s old) keeping reads_and_text (take n events) new
-  pub in_part : PrintedInPart text old new ran.moves
-  pub printed : OwesAll result → Printed text old new ran.moves
-  pub between : IsOk result → Runs only_text (last_cut (start_cut s old) ran.moves).world new
-  pub all : IsOk result → (n ≡ length events) ⊎ IsTrue ended
+  pub ran : Ran stored reading text files name (start_cut s old) keeping reads_and_talk (take n given) new
+  pub most : length given ≤ n + 1
+  pub rest : List ℕ
+  pub in_part : PrintsPart (texts text ran.moves ++ rest) old new
+  pub printed : OwesAll result → Says (texts text ran.moves ++ rest) old new
+  pub between : IsOk result → Runs any_talk (last_cut (start_cut s old) ran.moves).world new
+  pub all : IsOk result → (n ≡ length given) × IsAtEnd over ended rest
   pub halted : HaltedIn result (last_cut (start_cut s old) ran.moves).world new
 
 -- ---- a whole session
@@ -123,6 +156,7 @@ OwesTexts (Ok x) = Unit {0}
 OwesTexts (Err (NotOpened why)) = Unit {0}
 OwesTexts (Err (Halted Memory)) = Unit {0}
 OwesTexts (Err (Halted Fault)) = ⊥
+OwesTexts (Err (Halted Lost)) = Unit {0}
 OwesTexts (Err (NotClosed why)) = Unit {0}
 
 -- the image wasn't opened
@@ -155,51 +189,53 @@ pub record NotBegun {T : Type 0} (stored : List ℕ → List StoredBitmap) (allo
   pub stays : StaysSealed old new
   pub rest : AreLawful stored (or_marked allows) files h disks new
 
--- A session was begun for a history, and events were carried out, the first n of these. Each crash left the files lawful for the history that
+-- A session was begun for a history, and events were carried out, the first n of those that were given. Each crash left the files lawful for the history that
 -- the events before it extend, settled, and each sector of the disk is that of a disk since the last sync that was answered. What jobs sealed
 -- lasts. At its end files are at rest again: another session may begin, of the history that all of the events extend.
 pub record Begun {T : Type 0} (stored : List ℕ → List StoredBitmap) (reading : Reading) (text : ℕ → Event → Answer → List ℕ) (allows : List Directory) (files : Files) (name : List ℕ) (h : History) (disks : List (List ℕ))
-    (result : Result T Stop) (events : List Event) (answer : Answer) (old new : World) : Type 0 where
+    (result : Result T Stop) (over : List ℕ → Type 0) (given : List Given) (answer : Answer) (old new : World) : Type 0 where
   -- the opening
   pub opening : Opening
   pub taken : ℕ
-  pub given : ℕ
+  pub freed : ℕ
   pub finds : FindsOpening (old.seen files.source) files.id h opening
   pub entries_are : opening.entries ≡ stored (old.seen files.source)
   pub allowed : Allows allows (directory_of opening)
   pub epoch_left : opening.epoch < 2 ^ 64 - 1
   pub enough : taken ≤ opening.store.room
   pub nothing_taken : opening.entries ≡ [] → taken ≡ 0
-  pub nothing_given : opening.entries ≡ [] → given ≡ 0
+  pub nothing_given : opening.entries ≡ [] → freed ≡ 0
   pub begun : World
   pub open_run : Runs (only_file files.source) old begun
   pub opens : (d : Directory) × Allows allows d × OpensWithin stored files.source d files.id h old begun
   -- the events
   pub first : Cut
-  pub first_is : first ≡ start_cut (first_state h (record opening { taken = taken; given = given })) begun
+  pub first_is : first ≡ start_cut (first_state h (record opening { taken = taken; given = freed })) begun
   pub n : ℕ
   pub moves : List Move
   pub steps : AreMoves reading text name first moves
-  pub events_are : events_of moves ≡ take n events
-  pub over : World
-  pub reached : Runs reads_and_text (last_cut first moves).world over
+  pub given_are : givens_of moves ≡ take n given
+  pub most : length given ≤ n + 1
+  pub last_said : List ℕ
+  pub done : World
+  pub reached : Runs reads_and_talk (last_cut first moves).world done
   -- and the closing
-  pub close_run : Runs (only_file files.source) over new
-  pub printed : PrintedInPart text old new moves
-  pub owed : OwesTexts result → Printed text old new moves
+  pub close_run : Runs (only_file files.source) done new
+  pub printed : PrintsPart (texts text moves ++ last_said) old new
+  pub owed : OwesTexts result → Says (texts text moves ++ last_said) old new
   pub crashes : (k : ℕ) (left : ℕ → Option (List ℕ)) → old.now ≤ k → k ≤ new.now → IsLeftAt new k left
       → ((k < first.world.now) × LeftLawful stored (or_marked allows) files h disks left)
-      ⊎ (((first.world.now ≤ k) × (k ≤ over.now) × LeftAt stored files k left first moves)
-      ⊎ ((over.now < k) × LeftLawful stored (in_closing (last_cut first moves).state) files (last_cut first moves).state.machine.history (last_cut first moves).state.disks left))
+      ⊎ (((first.world.now ≤ k) × (k ≤ done.now) × LeftAt stored files k left first moves)
+      ⊎ ((done.now < k) × LeftLawful stored (in_closing (last_cut first moves).state) files (last_cut first moves).state.machine.history (last_cut first moves).state.disks left))
   pub sealed : SealsLast new files.id first moves
   pub stays : StaysSealed old new
   pub rest : AreLawful stored (in_closing (last_cut first moves).state) files (last_cut first moves).state.machine.history (last_cut first moves).state.disks new
   -- where it was closed, nothing but prints followed the last event, each crash leaves the very disk, and what lasts of the bitmaps is stored
-  pub between : IsOk result → Runs only_text (last_cut first moves).world over
-  pub all : IsOk result → (n ≡ length events) ⊎ IsTrue (last_cut first moves).state.machine.ended
-  pub closed : IsOk result → Closed stored files.source files.id (last_cut first moves).state over new answer
-  pub stopped : StoppedIn result files.source (last_cut first moves).state (last_cut first moves).world over new
+  pub between : IsOk result → Runs any_talk (last_cut first moves).world done
+  pub all : IsOk result → (n ≡ length given) × IsAtEnd over (last_cut first moves).state.machine.ended last_said
+  pub closed : IsOk result → Closed stored files.source files.id (last_cut first moves).state done new answer
+  pub stopped : StoppedIn result files.source (last_cut first moves).state (last_cut first moves).world done new
 
-abbrev pub Session : {T : Type 0} → (List ℕ → List StoredBitmap) → Reading → (ℕ → Event → Answer → List ℕ) → List Directory → Files → List ℕ → History → List (List ℕ) → Result T Stop → List Event → Answer → World → World → Type 0
-Session stored reading text allows files name h disks result events answer old new =
-    NotBegun stored allows files h disks result old new ⊎ Begun stored reading text allows files name h disks result events answer old new
+abbrev pub Session : {T : Type 0} → (List ℕ → List StoredBitmap) → Reading → (ℕ → Event → Answer → List ℕ) → List Directory → Files → List ℕ → History → List (List ℕ) → Result T Stop → (List ℕ → Type 0) → List Given → Answer → World → World → Type 0
+Session stored reading text allows files name h disks result over given answer old new =
+    NotBegun stored allows files h disks result old new ⊎ Begun stored reading text allows files name h disks result over given answer old new

@@ -8,5 +8,5 @@ mod events;
 pub mod laws;
 mod session;
 
-pub use events::{Halt, Teller, run_events};
+pub use events::{Halt, Source, run_events};
 pub use session::{Stop, run_session};

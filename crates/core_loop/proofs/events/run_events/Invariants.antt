@@ -1,11 +1,16 @@
-use Rattle.std.proofs.Common.{◌≡◌, map, take}
-use Rattle.core_events.specs.Views.{plain_event}
+use Rattle.std.proofs.Common.{◌≡◌, ◌+◌, ◌-◌, ◌^◌, ◌≤◌, [], length}
 use Rattle.core_loop.proofs.Looping.{WentOn}
 use Rattle.core_loop.proofs.events.run_events.Given as goal
 
--- as many events were carried out and told as the loop has come to
-abbrev pub invariant-loop-event : goal.invariant-loop-event
-invariant-loop-event g l =
-    WentOn g.N.Node.stored g.N.Node.reading g.T.Teller.text (g.N.Node.shown l.fn.node) (g.N.Node.shown l.node) (g.N.Node.keeps l.fn.node (g.D.Outside.world l.fn.depot)) (g.N.Node.keeps l.node (g.D.Outside.world l.depot))
-    (map plain_event l.fn.events) (take l.event-index (map plain_event l.fn.events)) (g.D.Outside.world l.fn.depot) (g.D.Outside.world l.depot)
-    × (l.number ≡ l.event-index)
+-- all events that were given were carried out and told
+abbrev pub invariant-loop-alloc : goal.invariant-loop-alloc
+invariant-loop-alloc g l =
+    WentOn g.N.Node.stored g.N.Node.reading g.S.Source.text (g.N.Node.shown l.fn.node) (g.N.Node.shown l.node) (g.N.Node.keeps l.fn.node (g.D.Outside.world l.fn.depot)) (g.N.Node.keeps l.node (g.D.Outside.world l.depot))
+    (g.S.Source.gave l.source) [] (g.D.Outside.world l.fn.depot) (g.D.Outside.world l.depot)
+    × g.S.Source.goes l.fn.source l.source
+    × (l.number ≡ length (g.S.Source.gave l.source))
+    × (l.number + g.S.Source.left l.source ≤ 2 ^ 64 - 1)
+
+-- fewer may come
+abbrev pub decreases-loop-alloc : goal.decreases-loop-alloc
+decreases-loop-alloc g l = g.S.Source.left l.source
