@@ -25,7 +25,8 @@ use Rattle.image_model.specs.Space.{IsShapedStore, Hole, is_data}
 use Rattle.plain_model.specs.Records.{RecordIsTrue, StateHolds}
 use Rattle.image_model.specs.Backups.{Backup, BackupState, Blank, Begun, Sealed}
 use Rattle.plain_model.specs.Lawful.{IsLawfulState, IsTrueEntry, IsOfEpoch, settle, writes_of, difference}
-use Rattle.plain_model.specs.Laws.{IsLikeDisk, IsShapedEntry}
+use Rattle.bitmap_model.specs.Bitmaps.{IsShapedEntry}
+use Rattle.plain_model.specs.Laws.{IsLikeDisk}
 use Rattle.plain_model.proofs.Histories.{length-now}
 use Rattle.plain_model.proofs.Points.{now-wrote}
 use Rattle.plain_model.proofs.Rising.{history-wrote}
@@ -58,9 +59,9 @@ unfolding settle
 start-settle h disk = refl
 
 -- an image in order, whose bitmaps say true things where they can be trusted, is ready for a history
-pub in_order_is_ready : {stored : List ℕ → List StoredBitmap} {id : List ℕ} {d : Directory} {h : History} {disk file : List ℕ} → disk ≡ now h → length disk ≡ length h.start → All (IsOfEpoch d.epoch) (timeline_of h).entries
-    → All (λ (e : StoredBitmap). IsTrue e.trusted → IsTrueEntry h e) d.entries → IsInOrder stored id d disk file → IsReady stored (d ∷ []) id h file
-in_order_is_ready {stored} {id} {d} {h} {disk} {file} is long epochs truths o = record {
+pub in_order_is_ready : {id : List ℕ} {d : Directory} {h : History} {disk file : List ℕ} → disk ≡ now h → length disk ≡ length h.start → All (IsOfEpoch d.epoch) (timeline_of h).entries
+    → All (λ (e : StoredBitmap). IsTrue e.trusted → IsTrueEntry h e) d.entries → IsInOrder id d disk file → IsReady (d ∷ []) id h file
+in_order_is_ready {id} {d} {h} {disk} {file} is long epochs truths o = record {
   opening = record { epoch = d.epoch; entries = d.entries; store = o.store; taken = 0; given = 0 };
   finds = record {
     source = subst (λ (x : List ℕ). IsSourceOf file x id d.epoch o.store) is o.source;
@@ -82,9 +83,9 @@ none_true : (h : History) (d : Directory) → NoneTrusted d → All (λ (e : Sto
 none_true h d in_use = λ k x below trusted. absurd (in_use (slice_index_or d.entries k x) (Contains-get_or d.entries k x below) trusted)
 
 -- what a crash within a session leaves is safe, for each history whose disks are as long and none of whose points is of a later epoch
-pub mixed_is_safe : {stored : List ℕ → List StoredBitmap} {id : List ℕ} {d : Directory} {h : History} {mixed : List (List ℕ)} {file : List ℕ} → IsHistory h → All (IsOfEpoch d.epoch) (timeline_of h).entries → Contains mixed (now h)
-    → IsMixed stored id d mixed file → IsSafe stored (d ∷ []) id h mixed file
-mixed_is_safe {stored} {id} {d} {h} {mixed} {file} history epochs among m =
+pub mixed_is_safe : {id : List ℕ} {d : Directory} {h : History} {mixed : List (List ℕ)} {file : List ℕ} → IsHistory h → All (IsOfEpoch d.epoch) (timeline_of h).entries → Contains mixed (now h)
+    → IsMixed id d mixed file → IsSafe (d ∷ []) id h mixed file
+mixed_is_safe {id} {d} {h} {mixed} {file} history epochs among m =
     let long : length m.disk ≡ length h.start = All-contains (λ d. length m.disk ≡ length d) mixed (now h) m.kept.long among ∙ length-now h history.inside in
     let like : IsLikeDisk h m.disk = record { long = long; whole = (m.in_order.sectors, m.in_order.whole) } in
     let start : length m.disk ≡ length (settle h m.disk).start = long ∙ ap length (sym (start-settle h m.disk)) in
@@ -97,8 +98,8 @@ mixed_is_safe {stored} {id} {d} {h} {mixed} {file} history epochs among m =
     }
 
 -- so is an image of a session that reads give
-pub reads_ready : {stored : List ℕ → List StoredBitmap} {id : List ℕ} {d : Directory} {h : History} {file : List ℕ} → IsHistory h → All (IsOfEpoch d.epoch) (timeline_of h).entries
-    → IsInOrder stored id d (now h) file × NoneTrusted d → IsReady stored (d ∷ []) id h file
+pub reads_ready : {id : List ℕ} {d : Directory} {h : History} {file : List ℕ} → IsHistory h → All (IsOfEpoch d.epoch) (timeline_of h).entries
+    → IsInOrder id d (now h) file × NoneTrusted d → IsReady (d ∷ []) id h file
 reads_ready {d = d} {h = h} history epochs (o, in_use) = in_order_is_ready refl (length-now h history.inside) epochs (none_true h d in_use) o
 
 -- ---- targets
@@ -158,16 +159,16 @@ target_goes_on {id} {h} entry t = record { bytes = t.bytes; store = t.store; in_
 
 -- ---- a guest's write
 
-mixed_more : {stored : List ℕ → List StoredBitmap} {id : List ℕ} {d : Directory} {mixed : List (List ℕ)} (disk other : List ℕ) {file : List ℕ} → Contains mixed disk → length disk ≡ length other → IsMixed stored id d mixed file → IsMixed stored id d (mixed ++ other ∷ []) file
-mixed_more {stored} {id} {d} {mixed} disk other {file} among long m =
+mixed_more : {id : List ℕ} {d : Directory} {mixed : List (List ℕ)} (disk other : List ℕ) {file : List ℕ} → Contains mixed disk → length disk ≡ length other → IsMixed id d mixed file → IsMixed id d (mixed ++ other ∷ []) file
+mixed_more {id} {d} {mixed} disk other {file} among long m =
     record { disk = m.disk; kept = kept_more mixed other m.disk (All-contains (λ d. length m.disk ≡ length d) mixed disk m.kept.long among ∙ long) m.kept; in_order = m.in_order; in_use = m.in_use }
 
-module _ {stored : List ℕ → List StoredBitmap} {source target : ℕ} {id : List ℕ} {d : Directory} {at : ℕ} {bytes left : List ℕ} {h : History} {mixed : List (List ℕ)} {L : List ℕ → List (List ℕ) → Type 0} {old mid new : World}
+module _ {source target : ℕ} {id : List ℕ} {d : Directory} {at : ℕ} {bytes left : List ℕ} {h : History} {mixed : List (List ℕ)} {L : List ℕ → List (List ℕ) → Type 0} {old mid new : World}
     (history : IsHistory h) (epochs : All (IsOfEpoch d.epoch) (timeline_of h).entries) (range : at + length bytes ≤ length h.start) (apart : source ≡ target → ⊥)
-    (before : EachNow old source (IsMixed stored id d mixed)) (among : Contains mixed (now h)) (copied : Runs (only_file target) old mid) (wrote : Runs (only_file source) mid new)
+    (before : EachNow old source (IsMixed id d mixed)) (among : Contains mixed (now h)) (copied : Runs (only_file target) old mid) (wrote : Runs (only_file source) mid new)
     (put : EachSinceSync old mid target ClaimsNothing) (claims : EachNow old target (IsLawfulTarget id h)) (claimed : IsTrue new.tells → ClaimsNothing (new.seen target))
-    (w : WritesDisk stored source id d at bytes left (now h) mixed L mid new)
-    (after : L (overlay (now h) at left) (mixed ++ overlay (now h) at left ∷ []) → Holds source (λ c. IsInOrder stored id d (overlay (now h) at left) c × NoneTrusted d) (IsMixed stored id d (mixed ++ overlay (now h) at left ∷ [])) new) where
+    (w : WritesDisk source id d at bytes left (now h) mixed L mid new)
+    (after : L (overlay (now h) at left) (mixed ++ overlay (now h) at left ∷ []) → Holds source (λ c. IsInOrder id d (overlay (now h) at left) c × NoneTrusted d) (IsMixed id d (mixed ++ overlay (now h) at left ∷ [])) new) where
   abbrev written : History
   written = with_entry h (Wrote at left)
 
@@ -187,25 +188,25 @@ module _ {stored : List ℕ → List StoredBitmap} {source target : ℕ} {id : L
   in_copy = since_more mid old.now target (λ c. IsLawfulTarget id h c ⊎ ClaimsNothing c) (IsLawfulTarget id h) (λ c either. ⊎_elim (λ (is : IsLawfulTarget id h c). is) (λ (claim : ClaimsNothing c). nothing_is_lawful claim) either)
       (since_sync (IsLawfulTarget id h) ClaimsNothing claims put)
 
-  pub carried : {well claim : Type 0} → claim → (well → left ≡ bytes) → CarriesWrite stored source target id d at bytes well h mixed L claim old new
+  pub carried : {well claim : Type 0} → claim → (well → left ≡ bytes) → CarriesWrite source target id d at bytes well h mixed L claim old new
   carried claim whole = record {
     left = left;
     whole = whole;
     torn = w.torn;
-    crashes = subst (λ (x : List ℕ). EachSince new old.now source (IsSafe stored (d ∷ []) id h (mixed ++ x ∷ []))) (sym disk_is)
-        (since_more new old.now source (IsMixed stored id d (mixed ++ overlay (now h) at left ∷ [])) _
+    crashes = subst (λ (x : List ℕ). EachSince new old.now source (IsSafe (d ∷ []) id h (mixed ++ x ∷ []))) (sym disk_is)
+        (since_more new old.now source (IsMixed id d (mixed ++ overlay (now h) at left ∷ [])) _
         (λ c m. mixed_is_safe history epochs (Contains-append_left mixed (overlay (now h) at left ∷ []) (now h) among) m)
         (since_on old.now source _ wrote
-        (since_spared source _ copied apart (now_more old source (IsMixed stored id d mixed) _ (λ c m. mixed_more (now h) (overlay (now h) at left) among long m) before))
+        (since_spared source _ copied apart (now_more old source (IsMixed id d mixed) _ (λ c m. mixed_more (now h) (overlay (now h) at left) among long m) before))
         w.since));
     holds_on = subst (λ (x : List ℕ). L x (mixed ++ x ∷ [])) (sym disk_is) w.after;
     safe =
         let o = after w.after in
         record {
           seen = λ told. reads_ready written_is (epochs-wrote d.epoch h at left epochs)
-              (subst (λ (x : List ℕ). IsInOrder stored id d x (new.seen source) × NoneTrusted d) (sym disk_is) (o.seen told));
-          each = subst (λ (x : List ℕ). EachNow new source (IsSafe stored (d ∷ []) id written (mixed ++ x ∷ []))) (sym disk_is)
-              (now_more new source (IsMixed stored id d (mixed ++ overlay (now h) at left ∷ [])) _
+              (subst (λ (x : List ℕ). IsInOrder id d x (new.seen source) × NoneTrusted d) (sym disk_is) (o.seen told));
+          each = subst (λ (x : List ℕ). EachNow new source (IsSafe (d ∷ []) id written (mixed ++ x ∷ []))) (sym disk_is)
+              (now_more new source (IsMixed id d (mixed ++ overlay (now h) at left ∷ [])) _
               (λ c m. mixed_is_safe written_is (epochs-wrote d.epoch h at left epochs) (subst (Contains (mixed ++ overlay (now h) at left ∷ [])) (sym disk_is) (Contains-push mixed (overlay (now h) at left))) m) o.each);
         };
     history_is = written_is;
@@ -218,11 +219,11 @@ module _ {stored : List ℕ → List StoredBitmap} {source target : ℕ} {id : L
   }
 
 -- a flush that was answered leaves the very disk
-pub flushed : {stored : List ℕ → List StoredBitmap} {source : ℕ} {id : List ℕ} {d : Directory} {h : History} {new : World} → IsHistory h → All (IsOfEpoch d.epoch) (timeline_of h).entries
-    → Holds source (λ c. IsInOrder stored id d (now h) c × NoneTrusted d) (IsMixed stored id d (now h ∷ [])) new → Holds source (IsReady stored (d ∷ []) id h) (IsSafe stored (d ∷ []) id h (now h ∷ [])) new
-flushed {stored} {source} {id} {d} {h} {new} history epochs o = record {
+pub flushed : {source : ℕ} {id : List ℕ} {d : Directory} {h : History} {new : World} → IsHistory h → All (IsOfEpoch d.epoch) (timeline_of h).entries
+    → Holds source (λ c. IsInOrder id d (now h) c × NoneTrusted d) (IsMixed id d (now h ∷ [])) new → Holds source (IsReady (d ∷ []) id h) (IsSafe (d ∷ []) id h (now h ∷ [])) new
+flushed {source} {id} {d} {h} {new} history epochs o = record {
   seen = λ told. reads_ready history epochs (o.seen told);
-  each = now_more new source (IsMixed stored id d (now h ∷ [])) _ (λ c m. mixed_is_safe history epochs (0, omega arith, refl) m) o.each;
+  each = now_more new source (IsMixed id d (now h ∷ [])) _ (λ c m. mixed_is_safe history epochs (0, omega arith, refl) m) o.each;
 }
 
 -- a seal, whatever it answered, leaves the target lawful, where the record that it makes is true
@@ -243,22 +244,22 @@ pub from_ok : {T E : Type 0} (P : Type 0) (r : Result T E) → IsOk r → OnOk r
 from_ok P (Ok x) is has = has
 from_ok P (Err e) is has = absurd (cc)
 
-pub moved : {stored : List ℕ → List StoredBitmap} {f g : ℕ} {id other : List ℕ} {d d' : Directory} (disk : List ℕ) (mixed : List (List ℕ)) (w : World) → f ≡ g → id ≡ other → d ≡ d'
-    → Holds f (λ c. IsInOrder stored id d disk c × NoneTrusted d) (IsMixed stored id d mixed) w → Holds g (λ c. IsInOrder stored other d' disk c × NoneTrusted d') (IsMixed stored other d' mixed) w
-moved {stored} {f} {g} {id} {other} {d} {d'} disk mixed w file same number holds =
-    subst (λ (n : Directory). Holds g (λ c. IsInOrder stored other n disk c × NoneTrusted n) (IsMixed stored other n mixed) w) number
-    (subst (λ (i : List ℕ). Holds g (λ c. IsInOrder stored i d disk c × NoneTrusted d) (IsMixed stored i d mixed) w) same
-    (subst (λ (k : ℕ). Holds k (λ c. IsInOrder stored id d disk c × NoneTrusted d) (IsMixed stored id d mixed) w) file holds))
+pub moved : {f g : ℕ} {id other : List ℕ} {d d' : Directory} (disk : List ℕ) (mixed : List (List ℕ)) (w : World) → f ≡ g → id ≡ other → d ≡ d'
+    → Holds f (λ c. IsInOrder id d disk c × NoneTrusted d) (IsMixed id d mixed) w → Holds g (λ c. IsInOrder other d' disk c × NoneTrusted d') (IsMixed other d' mixed) w
+moved {f} {g} {id} {other} {d} {d'} disk mixed w file same number holds =
+    subst (λ (n : Directory). Holds g (λ c. IsInOrder other n disk c × NoneTrusted n) (IsMixed other n mixed) w) number
+    (subst (λ (i : List ℕ). Holds g (λ c. IsInOrder i d disk c × NoneTrusted d) (IsMixed i d mixed) w) same
+    (subst (λ (k : ℕ). Holds k (λ c. IsInOrder id d disk c × NoneTrusted d) (IsMixed id d mixed) w) file holds))
 
 -- ---- an opening
 
 -- ---- files that are made
 
 -- a new target joins the backup files
-pub target_joins : {stored : List ℕ → List StoredBitmap} {allows : List Directory} (files : Files) {h : History} {disks : List (List ℕ)} {name : List ℕ} (f : ℕ) {old new : World} → AreLawful stored allows files h disks old → Runs (making name f) old new
+pub target_joins : {allows : List Directory} (files : Files) {h : History} {disks : List (List ℕ)} {name : List ℕ} (f : ℕ) {old new : World} → AreLawful allows files h disks old → Runs (making name f) old new
     → (f ≡ files.source → ⊥) → ((g : ℕ) → Contains files.backups g → g ≡ f → ⊥) → Holds f ClaimsNothing ClaimsNothing new
-    → AreLawful stored allows (record files { backups = files.backups ++ f ∷ [] }) h disks new
-target_joins {stored} {allows} files {h} {disks} f {old} {new} lawful run other apart made = record {
+    → AreLawful allows (record files { backups = files.backups ++ f ∷ [] }) h disks new
+target_joins {allows} files {h} {disks} f {old} {new} lawful run other apart made = record {
   history_is = lawful.history_is;
   mixes = lawful.mixes;
   source = (spare_leads files.source _ _ run (λ is. other (sym is))).after lawful.source;
@@ -272,35 +273,35 @@ target_joins {stored} {allows} files {h} {disks} f {old} {new} lawful run other 
 
 -- ---- a closing
 
-pub closing_is_safe : {stored : List ℕ → List StoredBitmap} {id : List ℕ} {d closed : Directory} {h : History} {disks : List (List ℕ)} {file : List ℕ} → IsHistory h → All (IsOfEpoch d.epoch) (timeline_of h).entries → All (IsOfEpoch closed.epoch) (timeline_of h).entries → Mixes h disks
-    → All (λ (e : StoredBitmap). IsTrue e.trusted → IsTrueEntry h e) closed.entries → IsMixed stored id d disks file ⊎ IsInOrder stored id closed (now h) file → IsSafe stored (d ∷ closed ∷ []) id h disks file
+pub closing_is_safe : {id : List ℕ} {d closed : Directory} {h : History} {disks : List (List ℕ)} {file : List ℕ} → IsHistory h → All (IsOfEpoch d.epoch) (timeline_of h).entries → All (IsOfEpoch closed.epoch) (timeline_of h).entries → Mixes h disks
+    → All (λ (e : StoredBitmap). IsTrue e.trusted → IsTrueEntry h e) closed.entries → IsMixed id d disks file ⊎ IsInOrder id closed (now h) file → IsSafe (d ∷ closed ∷ []) id h disks file
 closing_is_safe {d = d} {closed = closed} history epochs later mixes truths (inl m) = safe_more (λ x is. allows_left (d ∷ []) (closed ∷ []) x is) (mixed_is_safe history epochs mixes.among m)
 closing_is_safe {d = d} {closed = closed} {h = h} {disks = disks} history epochs later mixes truths (inr o) =
     ready_is_safe history (All-contains (IsLikeDisk h) disks (now h) mixes.alike mixes.among).whole (mixes_keep history mixes)
     (ready_more (λ x is. allows_right (d ∷ []) (closed ∷ []) x is) (in_order_is_ready refl (length-now h history.inside) later truths o))
 
-pub closing_leads : {stored : List ℕ → List StoredBitmap} {id : List ℕ} {d closing : Directory} {h : History} {mixed : List (List ℕ)} (f : ℕ) (old new : World) → old.now ≤ new.now → MayClose d closing h mixed
-    → EachSince new old.now f (λ c. IsMixed stored id d mixed c ⊎ IsInOrder stored id closing (now h) c) → (IsTrue new.tells → IsInOrder stored id d (now h) (new.seen f) ⊎ IsInOrder stored id closing (now h) (new.seen f))
-    → EachSince new old.now f (IsSafe stored (d ∷ closing ∷ []) id h mixed) × Holds f (IsReady stored (d ∷ closing ∷ []) id h) (IsSafe stored (d ∷ closing ∷ []) id h mixed) new
-closing_leads {stored} {id} {d} {closing} {h} {mixed} f old new later may since seen =
-    (each, record { seen = λ told. ready (new.seen f) (seen told); each = now_since new old.now f (IsSafe stored (d ∷ closing ∷ []) id h mixed) later each })
+pub closing_leads : {id : List ℕ} {d closing : Directory} {h : History} {mixed : List (List ℕ)} (f : ℕ) (old new : World) → old.now ≤ new.now → MayClose d closing h mixed
+    → EachSince new old.now f (λ c. IsMixed id d mixed c ⊎ IsInOrder id closing (now h) c) → (IsTrue new.tells → IsInOrder id d (now h) (new.seen f) ⊎ IsInOrder id closing (now h) (new.seen f))
+    → EachSince new old.now f (IsSafe (d ∷ closing ∷ []) id h mixed) × Holds f (IsReady (d ∷ closing ∷ []) id h) (IsSafe (d ∷ closing ∷ []) id h mixed) new
+closing_leads {id} {d} {closing} {h} {mixed} f old new later may since seen =
+    (each, record { seen = λ told. ready (new.seen f) (seen told); each = now_since new old.now f (IsSafe (d ∷ closing ∷ []) id h mixed) later each })
   where
-    each : EachSince new old.now f (IsSafe stored (d ∷ closing ∷ []) id h mixed)
-    each = since_more new old.now f _ (IsSafe stored (d ∷ closing ∷ []) id h mixed) (λ c left. closing_is_safe may.history_is may.epochs may.later may.mixes may.truths left) since
+    each : EachSince new old.now f (IsSafe (d ∷ closing ∷ []) id h mixed)
+    each = since_more new old.now f _ (IsSafe (d ∷ closing ∷ []) id h mixed) (λ c left. closing_is_safe may.history_is may.epochs may.later may.mixes may.truths left) since
 
-    ready : (c : List ℕ) → IsInOrder stored id d (now h) c ⊎ IsInOrder stored id closing (now h) c → IsReady stored (d ∷ closing ∷ []) id h c
+    ready : (c : List ℕ) → IsInOrder id d (now h) c ⊎ IsInOrder id closing (now h) c → IsReady (d ∷ closing ∷ []) id h c
     ready c (inl o) = ready_more (λ x is. allows_left (d ∷ []) (closing ∷ []) x is) (in_order_is_ready refl (length-now h may.history_is.inside) may.epochs (none_true h d may.none) o)
     ready c (inr o) = ready_more (λ x is. allows_right (d ∷ []) (closing ∷ []) x is) (in_order_is_ready refl (length-now h may.history_is.inside) may.later may.truths o)
 
-pub closed_leads : {stored : List ℕ → List StoredBitmap} {id : List ℕ} {d closing : Directory} {h : History} {mixed : List (List ℕ)} {f : ℕ} {new : World} → MayClose d closing h mixed
-    → Holds f (IsInOrder stored id closing (now h)) (IsInOrder stored id closing (now h)) new → Holds f (IsReady stored (closing ∷ []) id h) (IsSafe stored (closing ∷ []) id h (now h ∷ [])) new
-closed_leads {stored} {id} {d} {closing} {h} {mixed} {f} {new} may o = record {
+pub closed_leads : {id : List ℕ} {d closing : Directory} {h : History} {mixed : List (List ℕ)} {f : ℕ} {new : World} → MayClose d closing h mixed
+    → Holds f (IsInOrder id closing (now h)) (IsInOrder id closing (now h)) new → Holds f (IsReady (closing ∷ []) id h) (IsSafe (closing ∷ []) id h (now h ∷ [])) new
+closed_leads {id} {d} {closing} {h} {mixed} {f} {new} may o = record {
   seen = λ told. ready (new.seen f) (o.seen told);
-  each = now_more new f (IsInOrder stored id closing (now h)) _ (λ c is. ready_is_safe may.history_is (All-contains (IsLikeDisk h) mixed (now h) may.mixes.alike may.mixes.among).whole
+  each = now_more new f (IsInOrder id closing (now h)) _ (λ c is. ready_is_safe may.history_is (All-contains (IsLikeDisk h) mixed (now h) may.mixes.alike may.mixes.among).whole
       (record { long = All-cons (λ d. length (now h) ≡ length d) (now h) [] refl (All-nil (λ d. length (now h) ≡ length d)); kept = λ k below. (0, now h, omega arith, refl, refl) }) (ready c is)) o.each;
 }
   where
-    ready : (c : List ℕ) → IsInOrder stored id closing (now h) c → IsReady stored (closing ∷ []) id h c
+    ready : (c : List ℕ) → IsInOrder id closing (now h) c → IsReady (closing ∷ []) id h c
     ready c is = in_order_is_ready refl (length-now h may.history_is.inside) may.later may.truths is
 
 -- ---- an opening over bytes alone
@@ -314,15 +315,15 @@ unused_true : (h : History) (entries : List StoredBitmap) → All (λ (e : Store
 unused_true h [] = All-nil (λ (e : StoredBitmap). IsTrue e.trusted → IsTrueEntry h e)
 unused_true h (e ∷ entries) = All-cons (λ (e : StoredBitmap). IsTrue e.trusted → IsTrueEntry h e) (unused e) (map unused entries) (λ trusted. absurd (false≢true trusted)) (unused_true h entries)
 
-pub found_opens : {stored : List ℕ → List StoredBitmap} {id : List ℕ} {d : Directory} {h : History} (f : ℕ) (old new : World) → IsHistory h → IsReady stored (d ∷ []) id h (old.seen f)
-    → EachSinceSync old new f (IsFound stored id d (now h)) → IsFound stored id d (now h) (new.seen f) → OpensWithin stored f d id h old new
-found_opens {stored} {id} {d} {h} f old new history was since seen = record {
+pub found_opens : {id : List ℕ} {d : Directory} {h : History} (f : ℕ) (old new : World) → IsHistory h → IsReady (d ∷ []) id h (old.seen f)
+    → EachSinceSync old new f (IsFound id d (now h)) → IsFound id d (now h) (new.seen f) → OpensWithin f d id h old new
+found_opens {id} {d} {h} f old new history was since seen = record {
   since = record {
     moment = since.moment;
     from = since.from;
     to = since.to;
     before = since.before;
-    since = since_more new since.moment f (IsFound stored id d (now h)) (IsReady stored (d ∷ marked d ∷ []) id h) found since.since;
+    since = since_more new since.moment f (IsFound id d (now h)) (IsReady (d ∷ marked d ∷ []) id h) found since.since;
   };
   seen = found (new.seen f) seen;
 }
@@ -340,7 +341,7 @@ found_opens {stored} {id} {d} {h} f old new history was since seen = record {
     truths : All (λ (e : StoredBitmap). IsTrue e.trusted → IsTrueEntry h e) d.entries
     truths = subst (All (λ (e : StoredBitmap). IsTrue e.trusted → IsTrueEntry h e)) (ap (λ (x : Directory). x.entries) same) was.finds.lawful.truths
 
-    found : (c : List ℕ) → IsFound stored id d (now h) c → IsReady stored (d ∷ marked d ∷ []) id h c
+    found : (c : List ℕ) → IsFound id d (now h) c → IsReady (d ∷ marked d ∷ []) id h c
     found c (inl o) = ready_more (λ x is. allows_left (d ∷ []) (marked d ∷ []) x is) (in_order_is_ready refl (length-now h history.inside) epochs truths o)
     found c (inr o) = ready_more (λ x is. allows_right (d ∷ []) (marked d ∷ []) x is)
         (in_order_is_ready refl (length-now h history.inside) (All-weaker (IsOfEpoch d.epoch) (IsOfEpoch (d.epoch + 1)) (next_epoch d.epoch) (timeline_of h).entries epochs) (unused_true h d.entries) o)

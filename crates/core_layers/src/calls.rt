@@ -28,7 +28,7 @@ pub fn copy_and_write<I: Image, T: Target, D: Depot>(
     requires apart { I.file image.old ≡ T.file target.old → ⊥ }
     ensures carries { (h : History) (mixed : List (List ℕ)) → IsTrue (D.world depot.old).tells → at + length bytes.now ≤ length h.start → IsHistory h → All (IsOfEpoch (I.directory image.old).epoch) (timeline_of h).entries →
         I.holds image.old (D.world depot.old) (now h) mixed → T.holds target.old (D.world depot.old) → EachNow (D.world depot.old) (T.file target.old) (IsLawfulTarget (I.id image.old) h) →
-        CarriesWrite I.stored (I.file image.old) (T.file target.old) (I.id image.old) (I.directory image.old) at bytes.now (IsOk result) h mixed
+        CarriesWrite (I.file image.old) (T.file target.old) (I.id image.old) (I.directory image.old) at bytes.now (IsOk result) h mixed
         (I.holds image.new (D.world depot.new)) (T.holds target.new (D.world depot.new)) (D.world depot.old) (D.world depot.new) }
     ensures cause { OnErr result (FileFailed (I.file image.old) (D.world depot.old) (D.world depot.new)) }
 {
@@ -40,9 +40,9 @@ pub fn copy_and_write<I: Image, T: Target, D: Depot>(
 pub fn flush<I: Image, D: Depot>(depot: &mut D, image: &mut I) -> Result<(), Failed>
     requires given { I.file image.old < (D.world depot.old).given }
     ensures crashes { (h : History) (mixed : List (List ℕ)) → IsHistory h → All (IsOfEpoch (I.directory image.old).epoch) (timeline_of h).entries → I.holds image.old (D.world depot.old) (now h) mixed →
-        EachSince (D.world depot.new) (D.world depot.old).now (I.file image.old) (IsSafe I.stored (I.directory image.old ∷ []) (I.id image.old) h mixed) }
+        EachSince (D.world depot.new) (D.world depot.old).now (I.file image.old) (IsSafe (I.directory image.old ∷ []) (I.id image.old) h mixed) }
     ensures done { OnOk result ((h : History) (mixed : List (List ℕ)) → IsHistory h → All (IsOfEpoch (I.directory image.old).epoch) (timeline_of h).entries → I.holds image.old (D.world depot.old) (now h) mixed →
-        Holds (I.file image.old) (IsReady I.stored (I.directory image.old ∷ []) (I.id image.old) h) (IsSafe I.stored (I.directory image.old ∷ []) (I.id image.old) h (now h ∷ [])) (D.world depot.new)) }
+        Holds (I.file image.old) (IsReady (I.directory image.old ∷ []) (I.id image.old) h) (IsSafe (I.directory image.old ∷ []) (I.id image.old) h (now h ∷ [])) (D.world depot.new)) }
 {
     image.sync(depot)
 }
@@ -63,10 +63,10 @@ pub fn seal<T: Target, D: Depot>(depot: &mut D, target: &mut T) -> Result<(), Fa
 pub fn close<I: Image, D: Depot>(depot: &mut D, image: &mut I) -> Result<(), Failed>
     requires given { I.file image.old < (D.world depot.old).given }
     ensures leads { (h : History) (mixed : List (List ℕ)) → IsTrue (D.world depot.old).tells → MayClose (I.directory image.old) (I.closing image.old) h mixed → I.holds image.old (D.world depot.old) (now h) mixed →
-        EachSince (D.world depot.new) (D.world depot.old).now (I.file image.old) (IsSafe I.stored (I.directory image.old ∷ I.closing image.old ∷ []) (I.id image.old) h mixed)
-        × Holds (I.file image.old) (IsReady I.stored (I.directory image.old ∷ I.closing image.old ∷ []) (I.id image.old) h) (IsSafe I.stored (I.directory image.old ∷ I.closing image.old ∷ []) (I.id image.old) h mixed) (D.world depot.new) }
+        EachSince (D.world depot.new) (D.world depot.old).now (I.file image.old) (IsSafe (I.directory image.old ∷ I.closing image.old ∷ []) (I.id image.old) h mixed)
+        × Holds (I.file image.old) (IsReady (I.directory image.old ∷ I.closing image.old ∷ []) (I.id image.old) h) (IsSafe (I.directory image.old ∷ I.closing image.old ∷ []) (I.id image.old) h mixed) (D.world depot.new) }
     ensures done { OnOk result ((h : History) (mixed : List (List ℕ)) → IsTrue (D.world depot.old).tells → MayClose (I.directory image.old) (I.closing image.old) h mixed → I.holds image.old (D.world depot.old) (now h) mixed →
-        Holds (I.file image.old) (IsReady I.stored (I.closing image.old ∷ []) (I.id image.old) h) (IsSafe I.stored (I.closing image.old ∷ []) (I.id image.old) h (now h ∷ [])) (D.world depot.new)) }
+        Holds (I.file image.old) (IsReady (I.closing image.old ∷ []) (I.id image.old) h) (IsSafe (I.closing image.old ∷ []) (I.id image.old) h (now h ∷ [])) (D.world depot.new)) }
 {
     image.close(depot)
 }

@@ -6,6 +6,7 @@ use Rattle.disk_model.specs.Files.{IsOutcome}
 use Rattle.disk_model.specs.World.{World, Parts, Runs, versions, IsLeftAt, EachNow}
 use Rattle.disk_model.proofs.Outcomes.{settled}
 use Rattle.disk_model.proofs.Left.{left_there}
+use Rattle.qc_layout.specs.Directory.{stored_in}
 use Rattle.span_algebra.specs.declared.points.Point.{Point}
 use Rattle.span_algebra.specs.declared.spans.Base.TheVariants.{Whole, Since}
 use Rattle.span_algebra.specs.Timelines.{stands}
@@ -54,21 +55,21 @@ chains_give {files} {h} {left} history lawful backups p chain all =
     (chain_stands h backups p chain records, chain_gives h backups p history chain records)
 
 -- of files at rest too, as reads give them
-pub chains_at_rest : {stored : List ℕ → List StoredBitmap} {allows : List Directory} {files : Files} {h : History} {disks : List (List ℕ)} {w : World} → AreLawful stored allows files h disks w → IsTrue w.tells → ChainsGiveDisks files h (λ f. Some (w.seen f))
-chains_at_rest {stored} {allows} {files} {h} {disks} {w} lawful told = chains_give lawful.history_is (λ f c named is. subst (IsLawfulTarget files.id h) (some_same is) ((lawful.backups f named).seen told))
+pub chains_at_rest : {allows : List Directory} {files : Files} {h : History} {disks : List (List ℕ)} {w : World} → AreLawful allows files h disks w → IsTrue w.tells → ChainsGiveDisks files h (λ f. Some (w.seen f))
+chains_at_rest {allows} {files} {h} {disks} {w} lawful told = chains_give lawful.history_is (λ f c named is. subst (IsLawfulTarget files.id h) (some_same is) ((lawful.backups f named).seen told))
   where
     some_same : {a b : List ℕ} → Some a ≡ Some b → a ≡ b
     some_same e = cc
 
-module _ {stored : List ℕ → List StoredBitmap} {allows : List Directory} {files : Files} {h : History} {disks : List (List ℕ)} {left : ℕ → Option (List ℕ)} (history : IsHistory h) (lawful : LeftLawful stored allows files h disks left) where
+module _ {allows : List Directory} {files : Files} {h : History} {disks : List (List ℕ)} {left : ℕ → Option (List ℕ)} (history : IsHistory h) (lawful : LeftLawful allows files h disks left) where
   -- ---- bitmaps
 
-  covers : (c : List ℕ) (is : left files.source ≡ Some c) → (d : List ℕ) (e : StoredBitmap) → left files.source ≡ Some d → Contains (stored d) e → IsTrue e.trusted
+  covers : (c : List ℕ) (is : left files.source ≡ Some c) → (d : List ℕ) (e : StoredBitmap) → left files.source ≡ Some d → Contains (stored_in d) e → IsTrue e.trusted
       → IsTrueEntry h e × ((lawful.source c is).disk ≡ now h)
   covers c is d e is_d there trusted =
       let safe = lawful.source c is in
       let same : d ≡ c = some_same (sym is_d ∙ is) in
-      let here : Contains (stored c) e = subst (λ (x : List ℕ). Contains (stored x) e) same there in
+      let here : Contains (stored_in c) e = subst (λ (x : List ℕ). Contains (stored_in x) e) same there in
       let exactly : safe.disk ≡ now h = safe.trusted e here trusted in
       let truth : IsTrueEntry (settle h safe.disk) e = All-contains (λ (e : StoredBitmap). IsTrue e.trusted → IsTrueEntry (settle h safe.disk) e) safe.ready.opening.entries e safe.ready.finds.lawful.truths
       (subst (λ (es : List StoredBitmap). Contains es e) (sym safe.ready.entries_are) here) trusted in
@@ -113,18 +114,18 @@ target_settles {id} {h} disk {c} history like target = record {
   lawful = λ b long is. state_settles id h disk history like b b.state refl (target.lawful b long is);
 }
 
-module _ {stored : List ℕ → List StoredBitmap} {allows : List Directory} {files : Files} {h : History} {disks : List (List ℕ)} {left : ℕ → Option (List ℕ)} (history : IsHistory h) (apart : (f : ℕ) → Contains files.backups f → f ≡ files.source → ⊥)
-    (there : (f : ℕ) → (f ≡ files.source) ⊎ Contains files.backups f → (c : List ℕ) × (left f ≡ Some c)) (lawful : LeftLawful stored allows files h disks left) where
-  pub settles_left : SettlesLeft stored allows files h disks left
+module _ {allows : List Directory} {files : Files} {h : History} {disks : List (List ℕ)} {left : ℕ → Option (List ℕ)} (history : IsHistory h) (apart : (f : ℕ) → Contains files.backups f → f ≡ files.source → ⊥)
+    (there : (f : ℕ) → (f ≡ files.source) ⊎ Contains files.backups f → (c : List ℕ) × (left f ≡ Some c)) (lawful : LeftLawful allows files h disks left) where
+  pub settles_left : SettlesLeft allows files h disks left
   settles_left =
       let source = there files.source (inl refl) in
       let safe = lawful.source source.0 source.1 in
       let to : SettlesTo h safe.disk = settles h safe.disk history safe.like in
-      let again : IsSafe stored allows files.id (settle h safe.disk) (safe.disk ∷ []) source.0 = record {
+      let again : IsSafe allows files.id (settle h safe.disk) (safe.disk ∷ []) source.0 = record {
         disk = safe.disk;
         like = record { long = safe.like.long ∙ ap length (sym (start_stays h safe.disk)); whole = safe.like.whole };
         kept = kept_alone safe.disk;
-        ready = subst (λ (g : History). IsReady stored allows files.id g source.0) (sym (settle_again h safe.disk to.leads)) safe.ready;
+        ready = subst (λ (g : History). IsReady allows files.id g source.0) (sym (settle_again h safe.disk to.leads)) safe.ready;
         trusted = λ e here trusted. sym to.leads;
       } in
       record {
@@ -138,7 +139,7 @@ module _ {stored : List ℕ → List StoredBitmap} {allows : List Directory} {fi
           history_is = to.is_history;
           mixes = record { among = (0, omega arith, sym to.leads); alike = All-cons (IsLikeDisk (settle h safe.disk)) safe.disk [] again.like (All-nil (IsLikeDisk (settle h safe.disk))) };
           source = record {
-            seen = λ told. subst (IsReady stored allows files.id (settle h safe.disk)) (sym (begins.seen files.source source.0 told source.1)) safe.ready;
+            seen = λ told. subst (IsReady allows files.id (settle h safe.disk)) (sym (begins.seen files.source source.0 told source.1)) safe.ready;
             each = each_settled w files.source source.0 _ w.outcomes (begins.settled files.source source.0 source.1) again;
           };
           apart = apart;
@@ -151,19 +152,19 @@ module _ {stored : List ℕ → List StoredBitmap} {allows : List Directory} {fi
 
 -- ---- at each moment of a session
 
-pub record Stage (stored : List ℕ → List StoredBitmap) (files : Files) (k : ℕ) (left : ℕ → Option (List ℕ)) (from : Cut) (moves : List Move) : Type 0 where
+pub record Stage (files : Files) (k : ℕ) (left : ℕ → Option (List ℕ)) (from : Cut) (moves : List Move) : Type 0 where
   pub state : State
   pub counts : StageAt k state from moves
   pub history_is : IsHistory state.machine.history
-  pub lawful : LeftIn stored files state left
+  pub lawful : LeftIn files state left
 
-module _ (stored : List ℕ → List StoredBitmap) (reading : Reading) (text : ℕ → Event → Answer → List ℕ) (files : Files) (name : List ℕ) where
+module _ (reading : Reading) (text : ℕ → Event → Answer → List ℕ) (files : Files) (name : List ℕ) where
   within_history : (from : Cut) (move : Move) (s : State) → IsHistory from.state.machine.history → IsHistory move.cut.state.machine.history → IsWithin from move s → IsHistory s.machine.history
   within_history from move s before after (inl is) = subst (λ (x : State). IsHistory x.machine.history) (sym is) before
   within_history from move s before after (inr is) = subst (λ (x : State). IsHistory x.machine.history) (sym is.1) after
 
   stage_of : (k : ℕ) (left : ℕ → Option (List ℕ)) (from : Cut) (moves : List Move) → IsHistory from.state.machine.history → AreMoves reading text name from moves
-      → LeftAt stored files k left from moves → Stage stored files k left from moves
+      → LeftAt files k left from moves → Stage files k left from moves
   stage_of k left from [] history steps lawful = record { state = from.state; counts = refl; history_is = history; lawful = lawful }
   stage_of k left from (move ∷ moves) history steps (inl here) =
       record { state = here.1.0; counts = inl (here.0, here.1.1); history_is = within_history from move here.1.0 history steps.0.history_is here.1.1; lawful = here.1.2 }
@@ -186,8 +187,8 @@ history_opened : (h : History) (o : Opening) (c : Cut) (w : World) → c ≡ sta
 unfolding opened
 history_opened h o c w is history = subst (λ (x : Cut). IsHistory x.state.machine.history) (sym is) history
 
-module _ {T : Type 0} {stored : List ℕ → List StoredBitmap} {reading : Reading} {text : ℕ → Event → Answer → List ℕ} {allows : List Directory} {files : Files} {name : List ℕ} {h : History} {disks : List (List ℕ)} {result : Result T Stop} {over : List ℕ → Type 0} {given : List Given} {answer : Answer} {old new : World} where
-  pub survives : (session : Session stored reading text allows files name h disks result over given answer old new) → IsHistory h → ((f : ℕ) → Contains files.backups f → f ≡ files.source → ⊥) → {parts : Parts} → Runs parts old new → WereThere files old
+module _ {T : Type 0} {reading : Reading} {text : ℕ → Event → Answer → List ℕ} {allows : List Directory} {files : Files} {name : List ℕ} {h : History} {disks : List (List ℕ)} {result : Result T Stop} {over : List ℕ → Type 0} {given : List Given} {answer : Answer} {old new : World} where
+  pub survives : (session : Session reading text allows files name h disks result over given answer old new) → IsHistory h → ((f : ℕ) → Contains files.backups f → f ≡ files.source → ⊥) → {parts : Parts} → Runs parts old new → WereThere files old
       → (k : ℕ) (left : ℕ → Option (List ℕ)) → old.now ≤ k → k ≤ new.now → IsLeftAt new k left → Survives k left session
   survives (inl none) history apart run were k left low high is =
       settles_left history apart (λ f which. found_left f is (run.goes.lasts k f low high (were f which))) (none.crashes k left low high is)
@@ -197,17 +198,17 @@ module _ {T : Type 0} {stored : List ℕ → List StoredBitmap} {reading : Readi
       by_moment there begins (b.crashes k left low high is)
     where
       by_moment : ((f : ℕ) → (f ≡ files.source) ⊎ Contains files.backups f → (c : List ℕ) × (left f ≡ Some c)) → IsHistory b.first.state.machine.history
-          → ((k < b.first.world.now) × LeftLawful stored (or_marked allows) files h disks left)
-          ⊎ (((b.first.world.now ≤ k) × (k ≤ b.done.now) × LeftAt stored files k left b.first b.moves)
-          ⊎ ((b.done.now < k) × LeftLawful stored (in_closing (last_cut b.first b.moves).state) files (last_cut b.first b.moves).state.machine.history (last_cut b.first b.moves).state.disks left))
+          → ((k < b.first.world.now) × LeftLawful (or_marked allows) files h disks left)
+          ⊎ (((b.first.world.now ≤ k) × (k ≤ b.done.now) × LeftAt files k left b.first b.moves)
+          ⊎ ((b.done.now < k) × LeftLawful (in_closing (last_cut b.first b.moves).state) files (last_cut b.first b.moves).state.machine.history (last_cut b.first b.moves).state.disks left))
           → Survives k left (inr b)
       by_moment there begins (inl here) = inl (here.0, settles_left history apart there here.1)
       by_moment there begins (inr (inl here)) =
-          let stage = stage_of stored reading text files name k left b.first b.moves begins b.steps here.2 in
+          let stage = stage_of reading text files name k left b.first b.moves begins b.steps here.2 in
           inr (inl (here.0, here.1, record { state = stage.state; counts = stage.counts; settles = settles_left stage.history_is apart there stage.lawful }))
-      by_moment there begins (inr (inr here)) = inr (inr (here.0, settles_left (last_history stored reading text files name b.first b.moves begins b.steps) apart there here.1))
+      by_moment there begins (inr (inr here)) = inr (inr (here.0, settles_left (last_history reading text files name b.first b.moves begins b.steps) apart there here.1))
 
-  pub with_crashes : Session stored reading text allows files name h disks result over given answer old new → AreLawful stored allows files h disks old → {parts : Parts} → Runs parts old new
-      → (session : Session stored reading text allows files name h disks result over given answer old new)
+  pub with_crashes : Session reading text allows files name h disks result over given answer old new → AreLawful allows files h disks old → {parts : Parts} → Runs parts old new
+      → (session : Session reading text allows files name h disks result over given answer old new)
       × (WereThere files old → (k : ℕ) (left : ℕ → Option (List ℕ)) → old.now ≤ k → k ≤ new.now → IsLeftAt new k left → Survives k left session)
   with_crashes session lawful run = (session, survives session lawful.history_is lawful.apart run)

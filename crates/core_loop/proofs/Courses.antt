@@ -26,9 +26,9 @@ kept_in_event disks (Guest r) other disk long kept = elim (cases_Bool (is_write 
 kept_in_event disks (Monitor c) other disk long kept = kept
 kept_in_event disks Tick other disk long kept = kept
 
-module _ {stored : List ℕ → List StoredBitmap} {files : Files} where
+module _ {files : Files} where
   pub lawful_in_event : (s : State) (event : Event) (other : List ℕ) {left : ℕ → Option (List ℕ)} → length other ≡ length s.machine.history.start
-      → LeftIn stored files s left → LeftIn stored files (during s event other) left
+      → LeftIn files s left → LeftIn files (during s event other) left
   lawful_in_event s event other long lawful = record {
     source = λ c is.
         let safe = lawful.source c is in
@@ -77,34 +77,34 @@ module _ (reading : Reading) (text : ℕ → Event → Answer → List ℕ) (nam
   told_are from (m ∷ moves) steps =
       told_are m.cut moves steps.1 ∙ ap (λ (t : List ℕ). t ++ texts text moves) steps.0.told_is ∙ append_assoc from.told (m.said ++ text m.cut.count m.event m.answer) (texts text moves)
 
-  module _ {stored : List ℕ → List StoredBitmap} {files : Files} where
+  module _ {files : Files} where
     -- a crash after all of the moves
     pub after_all : (k : ℕ) {left : ℕ → Option (List ℕ)} (from : Cut) (moves : List Move) → AreMoves reading text name from moves → (last_cut from moves).world.now ≤ k
-        → LeftIn stored files (last_cut from moves).state left → LeftAt stored files k left from moves
+        → LeftIn files (last_cut from moves).state left → LeftAt files k left from moves
     after_all k from [] steps past lawful = lawful
     after_all k from (m ∷ moves) steps past lawful = inr (omega (arith, rising m.cut moves steps.1), after_all k m.cut moves steps.1 past lawful)
 
     -- a crash within the next event
     pub within_next : (k : ℕ) {left : ℕ → Option (List ℕ)} (from : Cut) (moves : List Move) (move : Move) → AreMoves reading text name from moves → (last_cut from moves).world.now ≤ k → k < move.cut.world.now
-        → (s : State) × IsWithin (last_cut from moves) move s × LeftIn stored files s left
-        → LeftAt stored files k left from (moves ++ move ∷ [])
+        → (s : State) × IsWithin (last_cut from moves) move s × LeftIn files s left
+        → LeftAt files k left from (moves ++ move ∷ [])
     within_next k from [] move steps past before lawful = inl (before, lawful)
     within_next k from (m ∷ moves) move steps past before lawful = inr (omega (arith, rising m.cut moves steps.1), within_next k m.cut moves move steps.1 past before lawful)
 
     -- an earlier crash
     pub before_next : (k : ℕ) {left : ℕ → Option (List ℕ)} (from : Cut) (moves : List Move) (move : Move) → k < move.cut.world.now
-        → (LeftIn stored files (last_cut from moves).state left → LeftIn stored files (during (last_cut from moves).state move.event (now move.cut.state.machine.history)) left)
-        → LeftAt stored files k left from moves → LeftAt stored files k left from (moves ++ move ∷ [])
+        → (LeftIn files (last_cut from moves).state left → LeftIn files (during (last_cut from moves).state move.event (now move.cut.state.machine.history)) left)
+        → LeftAt files k left from moves → LeftAt files k left from (moves ++ move ∷ [])
     before_next k from [] move before more lawful = inl (before, (during from.state move.event (now move.cut.state.machine.history), inl refl, more lawful))
     before_next k from (m ∷ moves) move before more (inl here) = inl here
     before_next k from (m ∷ moves) move before more (inr there) = inr (there.0, before_next k m.cut moves move before more there.1)
 
   -- a later crash, after all of the moves
-  pub later_crash : (stored : List ℕ → List StoredBitmap) (files : Files) (k later : ℕ) (left : ℕ → Option (List ℕ)) (from : Cut) (moves : List Move) → AreMoves reading text name from moves → (last_cut from moves).world.now ≤ k → k ≤ later
-      → LeftAt stored files k left from moves → LeftAt stored files later left from moves
-  later_crash stored files k later left from [] steps past low lawful = lawful
-  later_crash stored files k later left from (m ∷ moves) steps past low (inl here) = absurd (omega (arith, here.0, rising m.cut moves steps.1, past))
-  later_crash stored files k later left from (m ∷ moves) steps past low (inr there) = inr (omega (arith, there.0), later_crash stored files k later left m.cut moves steps.1 past low there.1)
+  pub later_crash : (files : Files) (k later : ℕ) (left : ℕ → Option (List ℕ)) (from : Cut) (moves : List Move) → AreMoves reading text name from moves → (last_cut from moves).world.now ≤ k → k ≤ later
+      → LeftAt files k left from moves → LeftAt files later left from moves
+  later_crash files k later left from [] steps past low lawful = lawful
+  later_crash files k later left from (m ∷ moves) steps past low (inl here) = absurd (omega (arith, here.0, rising m.cut moves steps.1, past))
+  later_crash files k later left from (m ∷ moves) steps past low (inr there) = inr (omega (arith, there.0), later_crash files k later left m.cut moves steps.1 past low there.1)
 
 -- ---- texts
 

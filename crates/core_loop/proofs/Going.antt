@@ -30,11 +30,11 @@ use Rattle.core_loop.proofs.Courses.{lawful_in_event, last_more, moves_more, mov
 
 -- ---- what a crash left, file by file
 
-module _ {stored : List ℕ → List StoredBitmap} {allows : List Directory} {files : Files} where
+module _ {allows : List Directory} {files : Files} where
   -- each crash now
   pub left_now : {h : History} {disks : List (List ℕ)} {w : World} {k : ℕ} {left : ℕ → Option (List ℕ)}
-      → EachNow w files.source (IsSafe stored allows files.id h disks) → ((f : ℕ) → Contains files.backups f → EachNow w f (IsLawfulTarget files.id h))
-      → ((f : ℕ) → w.past k f ≡ versions w f) → IsLeftAt w k left → LeftLawful stored allows files h disks left
+      → EachNow w files.source (IsSafe allows files.id h disks) → ((f : ℕ) → Contains files.backups f → EachNow w f (IsLawfulTarget files.id h))
+      → ((f : ℕ) → w.past k f ≡ versions w f) → IsLeftAt w k left → LeftLawful allows files h disks left
   left_now source backups same is = record {
     source = λ c here. source c (subst (λ (vs : List (List ℕ)). IsOutcome vs c) (same files.source) (is.there files.source c here));
     backups = λ f c named here. backups f named c (subst (λ (vs : List (List ℕ)). IsOutcome vs c) (same f) (is.there f c here));
@@ -42,8 +42,8 @@ module _ {stored : List ℕ → List StoredBitmap} {allows : List Directory} {fi
 
   -- each crash since a moment
   pub left_since : {h : History} {disks : List (List ℕ)} {w : World} (from k : ℕ) {left : ℕ → Option (List ℕ)}
-      → EachSince w from files.source (IsSafe stored allows files.id h disks) → ((f : ℕ) → Contains files.backups f → EachSince w from f (IsLawfulTarget files.id h))
-      → from ≤ k → k ≤ w.now → IsLeftAt w k left → LeftLawful stored allows files h disks left
+      → EachSince w from files.source (IsSafe allows files.id h disks) → ((f : ℕ) → Contains files.backups f → EachSince w from f (IsLawfulTarget files.id h))
+      → from ≤ k → k ≤ w.now → IsLeftAt w k left → LeftLawful allows files h disks left
   left_since from k source backups low high is = record {
     source = λ c here. source k low high c (is.there files.source c here);
     backups = λ f c named here. backups f named k low high c (is.there f c here);
@@ -112,14 +112,14 @@ abbrev pub Knows : Type 1
 Knows = State → Type 0
 
 -- the source is ready for this state, and safe
-abbrev pub HoldsIn : (List ℕ → List StoredBitmap) → ℕ → List ℕ → State → World → Type 0
-HoldsIn stored f id s w = Holds f (IsReady stored (in_session s) id s.machine.history) (IsSafe stored (in_session s) id s.machine.history s.disks) w
+abbrev pub HoldsIn : ℕ → List ℕ → State → World → Type 0
+HoldsIn f id s w = Holds f (IsReady (in_session s) id s.machine.history) (IsSafe (in_session s) id s.machine.history s.disks) w
 
-abbrev pub SafeFor : (List ℕ → List StoredBitmap) → List ℕ → State → List ℕ → Type 0
-SafeFor stored id s c = IsSafe stored (in_session s) id s.machine.history s.disks c
+abbrev pub SafeFor : List ℕ → State → List ℕ → Type 0
+SafeFor id s c = IsSafe (in_session s) id s.machine.history s.disks c
 
 -- what is known around an event
-pub record Around (stored : List ℕ → List StoredBitmap) (files : Files) (name : List ℕ) (before after : Shown) (K L : Knows) (mid new : World) : Type 0 where
+pub record Around (files : Files) (name : List ℕ) (before after : Shown) (K L : Knows) (mid new : World) : Type 0 where
   pub file_is : files.source ≡ before.file
   pub id_is : files.id ≡ before.id
   pub name_is : mid.named before.file ≡ name
@@ -129,11 +129,11 @@ pub record Around (stored : List ℕ → List StoredBitmap) (files : Files) (nam
   pub run : Runs any_file mid new
   pub stood : (s : State) → K s → StandsFor before mid s.machine
   pub stands : (s : State) → L s → StandsFor after new s.machine
-  pub safe : (s : State) → L s → HoldsIn stored after.file after.id s new
+  pub safe : (s : State) → L s → HoldsIn after.file after.id s new
 
 -- the run and one event more
-pub record RanOneMore (stored : List ℕ → List StoredBitmap) (reading : Reading) (text : ℕ → Event → Answer → List ℕ) (files : Files) (name : List ℕ) (first : Cut) (L : Knows) (given : Given) (answer : Answer) (done : List Given) (moves : List Move) (new : World) : Type 0 where
-  pub ran : Ran stored reading text files name first L nothing (done ++ given ∷ []) new
+pub record RanOneMore (reading : Reading) (text : ℕ → Event → Answer → List ℕ) (files : Files) (name : List ℕ) (first : Cut) (L : Knows) (given : Given) (answer : Answer) (done : List Given) (moves : List Move) (new : World) : Type 0 where
+  pub ran : Ran reading text files name first L nothing (done ++ given ∷ []) new
   pub move : Move
   pub moves_are : ran.moves ≡ moves ++ move ∷ []
   pub count_is : move.cut.count ≡ suc (last_cut first moves).count
@@ -141,8 +141,8 @@ pub record RanOneMore (stored : List ℕ → List StoredBitmap) (reading : Readi
   pub event_is : move.event ≡ given.event
   pub answer_is : move.answer ≡ answer
 
-module _ {stored : List ℕ → List StoredBitmap} {reading : Reading} {text : ℕ → Event → Answer → List ℕ} {files : Files} {name : List ℕ} {before after : Shown} {K L : Knows} {mid new : World} (around : Around stored files name before after K L mid new)
-    {first : Cut} (given : Given) {answer : Answer} {done : List Given} (s : NodeSteps stored reading before K L mid new given.event answer) (r : Ran stored reading text files name first K any_talk done mid)
+module _ {reading : Reading} {text : ℕ → Event → Answer → List ℕ} {files : Files} {name : List ℕ} {before after : Shown} {K L : Knows} {mid new : World} (around : Around files name before after K L mid new)
+    {first : Cut} (given : Given) {answer : Answer} {done : List Given} (s : NodeSteps reading before K L mid new given.event answer) (r : Ran reading text files name first K any_talk done mid)
     (printed : IsTrue (last_cut first r.moves).world.prints → mid.printed ≡ (last_cut first r.moves).told ++ given.said) where
   abbrev last : Cut
   last = last_cut first r.moves
@@ -195,16 +195,16 @@ module _ {stored : List ℕ → List StoredBitmap} {reading : Reading} {text : �
   within = during last.state given.event (now next.machine.history)
 
   -- the source's outcome says which of the two counts
-  in_event : (k : ℕ) {left : ℕ → Option (List ℕ)} → mid.now ≤ k → k ≤ new.now → IsLeftAt new k left → (x : State) × IsWithin last move x × LeftIn stored files x left
+  in_event : (k : ℕ) {left : ℕ → Option (List ℕ)} → mid.now ≤ k → k ≤ new.now → IsLeftAt new k left → (x : State) × IsWithin last move x × LeftIn files x left
   in_event k {left} low high is = by_source (left files.source) refl
     where
-      source : (c : List ℕ) → left files.source ≡ Some c → SafeFor stored files.id within c ⊎ (IsTrue (may_land given.event) × SafeFor stored files.id next c)
+      source : (c : List ℕ) → left files.source ≡ Some c → SafeFor files.id within c ⊎ (IsTrue (may_land given.event) × SafeFor files.id next c)
       source c here = moved (s.goes.crashes last.state r.keeps) k low high c (is.there files.source c here)
         where
-          moved : EachSince new mid.now before.file (λ c. IsSafe stored (in_session within) before.id within.machine.history within.disks c ⊎ (IsTrue (may_land given.event) × IsSafe stored (in_session next) before.id next.machine.history next.disks c))
-              → EachSince new mid.now files.source (λ c. SafeFor stored files.id within c ⊎ (IsTrue (may_land given.event) × SafeFor stored files.id next c))
-          moved each = subst (λ (f : ℕ). EachSince new mid.now f (λ c. SafeFor stored files.id within c ⊎ (IsTrue (may_land given.event) × SafeFor stored files.id next c))) (sym around.file_is)
-              (subst (λ (id : List ℕ). EachSince new mid.now before.file (λ c. IsSafe stored (in_session within) id within.machine.history within.disks c ⊎ (IsTrue (may_land given.event) × IsSafe stored (in_session next) id next.machine.history next.disks c))) (sym around.id_is) each)
+          moved : EachSince new mid.now before.file (λ c. IsSafe (in_session within) before.id within.machine.history within.disks c ⊎ (IsTrue (may_land given.event) × IsSafe (in_session next) before.id next.machine.history next.disks c))
+              → EachSince new mid.now files.source (λ c. SafeFor files.id within c ⊎ (IsTrue (may_land given.event) × SafeFor files.id next c))
+          moved each = subst (λ (f : ℕ). EachSince new mid.now f (λ c. SafeFor files.id within c ⊎ (IsTrue (may_land given.event) × SafeFor files.id next c))) (sym around.file_is)
+              (subst (λ (id : List ℕ). EachSince new mid.now before.file (λ c. IsSafe (in_session within) id within.machine.history within.disks c ⊎ (IsTrue (may_land given.event) × IsSafe (in_session next) id next.machine.history next.disks c))) (sym around.id_is) each)
 
       backup : (f : ℕ) (c : List ℕ) → Contains files.backups f → left f ≡ Some c → IsLawfulTarget files.id last.state.machine.history c × (IsTrue (may_land given.event) → IsLawfulTarget files.id next.machine.history c)
       backup f c named here =
@@ -212,21 +212,21 @@ module _ {stored : List ℕ → List StoredBitmap} {reading : Reading} {text : �
           → EachSince new mid.now f (λ c. IsLawfulTarget id last.state.machine.history c × (IsTrue (may_land given.event) → IsLawfulTarget id next.machine.history c))) (sym around.id_is)
           (s.goes.lawful last.state f r.keeps).since (r.backups f named)) k low high c (is.there f c here)
 
-      before_it : ((c : List ℕ) → left files.source ≡ Some c → SafeFor stored files.id within c) → (x : State) × IsWithin last move x × LeftIn stored files x left
+      before_it : ((c : List ℕ) → left files.source ≡ Some c → SafeFor files.id within c) → (x : State) × IsWithin last move x × LeftIn files x left
       before_it safe = (within, inl refl, record { source = safe; backups = λ f c named here. (backup f c named here).0 })
 
-      by_source : (o : Option (List ℕ)) → left files.source ≡ o → (x : State) × IsWithin last move x × LeftIn stored files x left
+      by_source : (o : Option (List ℕ)) → left files.source ≡ o → (x : State) × IsWithin last move x × LeftIn files x left
       by_source None none = before_it (λ c here. absurd (differ (sym none ∙ here)))
         where
           differ : {c : List ℕ} → None ≡ Some c → ⊥
           differ e = absurd (cc)
       by_source (Some c) here = ⊎_elim
-          (λ (safe : SafeFor stored files.id within c). before_it (λ d there. subst (SafeFor stored files.id within) (same there) safe))
-          (λ (lands : IsTrue (may_land given.event) × SafeFor stored files.id next c). (
+          (λ (safe : SafeFor files.id within c). before_it (λ d there. subst (SafeFor files.id within) (same there) safe))
+          (λ (lands : IsTrue (may_land given.event) × SafeFor files.id next c). (
             next,
             inr (lands.0, refl),
             record {
-              source = λ d there. subst (SafeFor stored files.id next) (same there) lands.1;
+              source = λ d there. subst (SafeFor files.id next) (same there) lands.1;
               backups = λ f d named there. (backup f d named there).1 lands.0;
             },
           ))
@@ -240,18 +240,18 @@ module _ {stored : List ℕ → List StoredBitmap} {reading : Reading} {text : �
       (sym around.id_is) (s.goes.lawful last.state f r.keeps).after (r.backups f named)
 
   -- each crash after it
-  at_end : (k : ℕ) {left : ℕ → Option (List ℕ)} → k ≡ new.now → IsLeftAt new k left → LeftIn stored files next left
+  at_end : (k : ℕ) {left : ℕ → Option (List ℕ)} → k ≡ new.now → IsLeftAt new k left → LeftIn files next left
   at_end k is_now is =
       let held = around.safe next goes_on in
       left_now
-      (subst (λ (f : ℕ). EachNow new f (IsSafe stored (in_session next) files.id next.machine.history next.disks)) (around.same.file_stays ∙ sym around.file_is)
-      (subst (λ (id : List ℕ). EachNow new after.file (IsSafe stored (in_session next) id next.machine.history next.disks)) (around.same.id_stays ∙ sym around.id_is)
+      (subst (λ (f : ℕ). EachNow new f (IsSafe (in_session next) files.id next.machine.history next.disks)) (around.same.file_stays ∙ sym around.file_is)
+      (subst (λ (id : List ℕ). EachNow new after.file (IsSafe (in_session next) id next.machine.history next.disks)) (around.same.id_stays ∙ sym around.id_is)
       held.each))
       (λ f named. (backups_on f named).each)
       (λ f. ap (λ (m : ℕ). new.past m f) is_now)
       is
 
-  crashes_on : CrashesAfter stored files first (r.moves ++ move ∷ []) new
+  crashes_on : CrashesAfter files first (r.moves ++ move ∷ []) new
   crashes_on k left low high is = elim (cases_lt k mid.now) [
     | inl before ↦ before_next reading text name k first r.moves move (omega (arith, before, around.run.goes.later)) (lawful_in_event last.state given.event (now next.machine.history) as_long)
         (r.crashes k left low (omega arith) (left_back around.run (omega arith) is))
@@ -261,7 +261,7 @@ module _ {stored : List ℕ → List StoredBitmap} {reading : Reading} {text : �
           let same : k ≡ new.now = omega arith in
           after_all reading text name k first (r.moves ++ move ∷ []) (moves_more reading text name first r.moves move r.steps is_move)
           (subst (λ (c : Cut). c.world.now ≤ k) (sym (last_more first r.moves move)) past)
-          (subst (λ (c : Cut). LeftIn stored files c.state left) (sym (last_more first r.moves move)) (at_end k same is))
+          (subst (λ (c : Cut). LeftIn files c.state left) (sym (last_more first r.moves move)) (at_end k same is))
     ]
   ]
 
@@ -274,7 +274,7 @@ module _ {stored : List ℕ → List StoredBitmap} {reading : Reading} {text : �
       (λ j there done. sealed_in new files.id last.state.machine j (new.found j.target) refl
       (subst (λ (id : List ℕ). SealedIn new id last.state.machine j (new.found j.target)) (sym around.id_is) (s.goes.sealed last.state j r.keeps there done)))
 
-  ran_on : Ran stored reading text files name first L nothing (done ++ given ∷ []) new
+  ran_on : Ran reading text files name first L nothing (done ++ given ∷ []) new
   ran_on = record {
     moves = r.moves ++ move ∷ [];
     steps = moves_more reading text name first r.moves move r.steps is_move;
@@ -288,15 +288,15 @@ module _ {stored : List ℕ → List StoredBitmap} {reading : Reading} {text : �
     reached = subst (λ (c : Cut). Runs nothing c.world new) (sym (last_more first r.moves move)) (stay nothing new);
   }
 
-  pub went_on : RanOneMore stored reading text files name first L given answer done r.moves new
+  pub went_on : RanOneMore reading text files name first L given answer done r.moves new
   unfolding ran_on
   went_on = record { ran = ran_on; move = move; moves_are = refl; count_is = refl; said_is = refl; event_is = refl; answer_is = refl }
 
 -- ---- calls that spare the files
 
-module _ {stored : List ℕ → List StoredBitmap} {reading : Reading} {text : ℕ → Event → Answer → List ℕ} {files : Files} {name : List ℕ} {K L : Knows} {first : Cut} {done : List Given} {before parts others : Parts} {mid new : World} where
+module _ {reading : Reading} {text : ℕ → Event → Answer → List ℕ} {files : Files} {name : List ℕ} {K L : Knows} {first : Cut} {done : List Given} {before parts others : Parts} {mid new : World} where
   pub spared_on : IsTrue new.tells → Runs parts mid new → Within parts any_call → ((f : ℕ) → parts.files f → ⊥) → ((name : List ℕ) → parts.names name → ⊥)
-      → ((s : State) → K s → L s) → (r : Ran stored reading text files name first K before done mid) → Within before any_call → Runs others (last_cut first r.moves).world new → (q : Ran stored reading text files name first L others done new) × (q.moves ≡ r.moves)
+      → ((s : State) → K s → L s) → (r : Ran reading text files name first K before done mid) → Within before any_call → Runs others (last_cut first r.moves).world new → (q : Ran reading text files name first L others done new) × (q.moves ≡ r.moves)
   spared_on told run within no_files no_names more r before_within reached = (
     record {
       moves = r.moves;
@@ -306,7 +306,7 @@ module _ {stored : List ℕ → List StoredBitmap} {reading : Reading} {text : �
       backups = λ f named. (spare_leads f _ _ run (no_files f)).after (r.backups f named);
       crashes = λ k left low high is. elim (cases_lt mid.now k) [
         | inr before ↦ r.crashes k left low before (left_back run before is)
-        | inl after ↦ later_crash reading text name stored files mid.now k left first r.moves r.steps r.reached.goes.later (omega arith) (r.crashes mid.now left (omega (arith, rising reading text name first r.moves r.steps, r.reached.goes.later)) (omega arith) (record {
+        | inl after ↦ later_crash reading text name files mid.now k left first r.moves r.steps r.reached.goes.later (omega arith) (r.crashes mid.now left (omega (arith, rising reading text name first r.moves r.steps, r.reached.goes.later)) (omega arith) (record {
           there = λ f c here. subst (λ (vs : List (List ℕ)). IsOutcome vs c) ((run.files f (no_files f)).moments k (omega arith) high) (is.there f c here);
           absent = λ f none. sym ((run.files f (no_files f)).moments k (omega arith) high) ∙ is.absent f none;
         }))

@@ -97,17 +97,17 @@ files_on shown run files = record { source = below_on shown.file run files.sourc
 -- ---- what is so at the head of the loop
 
 -- All that was given was carried out, and after the answers to it this was said.
-pub record WentOn (stored : List ℕ → List StoredBitmap) (reading : Reading) (text : ℕ → Event → Answer → List ℕ) (before after : Shown) (K L : Knows) (done : List Given) (said : List ℕ) (old new : World) : Type 0 where
+pub record WentOn (reading : Reading) (text : ℕ → Event → Answer → List ℕ) (before after : Shown) (K L : Knows) (done : List Given) (said : List ℕ) (old new : World) : Type 0 where
   pub same : SameSource before after
   pub files : HasFiles after new
   pub run : Runs any_call old new
   pub named_is : new.named after.file ≡ old.named before.file
   pub ran : (files : Files) (s : State) → IsTrue old.tells → Starts files before K (asked done) s old
-      → (r : Ran stored reading text files (old.named before.file) (start_cut s old) L any_talk done new) × (IsTrue old.prints → new.printed ≡ (last_cut (start_cut s old) r.moves).told ++ said)
+      → (r : Ran reading text files (old.named before.file) (start_cut s old) L any_talk done new) × (IsTrue old.prints → new.printed ≡ (last_cut (start_cut s old) r.moves).told ++ said)
 
-module _ {stored : List ℕ → List StoredBitmap} {reading : Reading} {text : ℕ → Event → Answer → List ℕ} {files : Files} {shown : Shown} {K : Knows} (given : List Given) {s : State} {w : World} where
-  pub none_ran : (name : List ℕ) → HoldsIn stored shown.file shown.id s w → Starts files shown K (asked given) s w
-      → (r : Ran stored reading text files name (start_cut s w) K any_talk [] w) × (r.moves ≡ [])
+module _ {reading : Reading} {text : ℕ → Event → Answer → List ℕ} {files : Files} {shown : Shown} {K : Knows} (given : List Given) {s : State} {w : World} where
+  pub none_ran : (name : List ℕ) → HoldsIn shown.file shown.id s w → Starts files shown K (asked given) s w
+      → (r : Ran reading text files name (start_cut s w) K any_talk [] w) × (r.moves ≡ [])
   none_ran name safe starts = (
     record {
       moves = [];
@@ -116,8 +116,8 @@ module _ {stored : List ℕ → List StoredBitmap} {reading : Reading} {text : �
       keeps = starts.keeps;
       backups = starts.backups;
       crashes = λ k left low high is. left_now
-          (subst (λ (f : ℕ). EachNow w f (IsSafe stored (in_session s) files.id s.machine.history s.disks)) (sym starts.file_is)
-          (subst (λ (id : List ℕ). EachNow w shown.file (IsSafe stored (in_session s) id s.machine.history s.disks)) (sym starts.id_is) safe.each))
+          (subst (λ (f : ℕ). EachNow w f (IsSafe (in_session s) files.id s.machine.history s.disks)) (sym starts.file_is)
+          (subst (λ (id : List ℕ). EachNow w shown.file (IsSafe (in_session s) id s.machine.history s.disks)) (sym starts.id_is) safe.each))
           (λ f named. (starts.backups f named).each)
           (λ f. ap (λ (k : ℕ). w.past k f) (le_antisym low high))
           is;
@@ -134,10 +134,10 @@ module _ {stored : List ℕ → List StoredBitmap} {reading : Reading} {text : �
 
 -- ---- what is said between two events
 
-module _ {stored : List ℕ → List StoredBitmap} {reading : Reading} {text : ℕ → Event → Answer → List ℕ} {before after : Shown} {K L : Knows} {done : List Given} {said more : List ℕ} {old mid new : World} where
+module _ {reading : Reading} {text : ℕ → Event → Answer → List ℕ} {before after : Shown} {K L : Knows} {done : List Given} {said more : List ℕ} {old mid new : World} where
   -- more was said, and the node's files were spared
-  pub said_more : WentOn stored reading text before after K L done said old mid → Runs any_talk mid new → {M : Knows} → ((s : State) → L s → M s) → Says more mid new
-      → WentOn stored reading text before after K M done (said ++ more) old new
+  pub said_more : WentOn reading text before after K L done said old mid → Runs any_talk mid new → {M : Knows} → ((s : State) → L s → M s) → Says more mid new
+      → WentOn reading text before after K M done (said ++ more) old new
   said_more w talk keep says = record {
     same = w.same;
     files = files_on after talk w.files;
@@ -156,33 +156,33 @@ module _ {stored : List ℕ → List StoredBitmap} {reading : Reading} {text : �
 -- ---- one event more
 
 -- with more parts after the last cut
-abbrev ran_in : {stored : List ℕ → List StoredBitmap} {reading : Reading} {text : ℕ → Event → Answer → List ℕ} {files : Files} {name : List ℕ} {first : Cut} {K : Knows} {done others : List Given} {w : World} → done ≡ others
-    → Ran stored reading text files name first K any_talk done w → Ran stored reading text files name first K reads_and_talk others w
+abbrev ran_in : {reading : Reading} {text : ℕ → Event → Answer → List ℕ} {files : Files} {name : List ℕ} {first : Cut} {K : Knows} {done others : List Given} {w : World} → done ≡ others
+    → Ran reading text files name first K any_talk done w → Ran reading text files name first K reads_and_talk others w
 ran_in is r = record { moves = r.moves; steps = r.steps; given_are = r.given_are ∙ is; keeps = r.keeps; backups = r.backups; crashes = r.crashes; sealed = r.sealed; stays = r.stays; blanks = r.blanks; reached = run_more talk_in_reads r.reached }
 
-abbrev ran_as : {stored : List ℕ → List StoredBitmap} {reading : Reading} {text : ℕ → Event → Answer → List ℕ} {files : Files} {name : List ℕ} {first : Cut} {K : Knows} {parts : Parts} {done others : List Given} {w : World} → done ≡ others
-    → Ran stored reading text files name first K parts done w → Ran stored reading text files name first K parts others w
+abbrev ran_as : {reading : Reading} {text : ℕ → Event → Answer → List ℕ} {files : Files} {name : List ℕ} {first : Cut} {K : Knows} {parts : Parts} {done others : List Given} {w : World} → done ≡ others
+    → Ran reading text files name first K parts done w → Ran reading text files name first K parts others w
 ran_as is r = record { moves = r.moves; steps = r.steps; given_are = r.given_are ∙ is; keeps = r.keeps; backups = r.backups; crashes = r.crashes; sealed = r.sealed; stays = r.stays; blanks = r.blanks; reached = r.reached }
 
-module _ {stored : List ℕ → List StoredBitmap} {reading : Reading} {text : ℕ → Event → Answer → List ℕ} {before s1 s2 : Shown} {K L M : Knows} {done : List Given} {given : Given} {answer : Answer} {old mid stepped : World}
-    (w : WentOn stored reading text before s1 K L done given.said old mid)
+module _ {reading : Reading} {text : ℕ → Event → Answer → List ℕ} {before s1 s2 : Shown} {K L M : Knows} {done : List Given} {given : Given} {answer : Answer} {old mid stepped : World}
+    (w : WentOn reading text before s1 K L done given.said old mid)
     (stood : (s : State) → L s → StandsFor s1 mid s.machine)
     (stands : (s : State) → M s → StandsFor s2 stepped s.machine)
-    (safe : (s : State) → M s → HoldsIn stored s2.file s2.id s stepped)
-    (goes : IsTrue mid.tells → BlanksAreEmpty mid given.event → NodeSteps stored reading s1 L M mid stepped given.event answer)
+    (safe : (s : State) → M s → HoldsIn s2.file s2.id s stepped)
+    (goes : IsTrue mid.tells → BlanksAreEmpty mid given.event → NodeSteps reading s1 L M mid stepped given.event answer)
     (running : s1.ended ≡ false)
     (same : SameSource s1 s2)
     (run : Runs (works_on s1 s2 stepped given.event answer) mid stepped) where
   -- the run to here and one event more, and what was printed before it
   pub stepped_on : (files : Files) (s : State) → IsTrue old.tells → Starts files before K (asked (done ++ given ∷ [])) s old
-      → (r : Ran stored reading text files (old.named before.file) (start_cut s old) L any_talk done mid)
-      × RanOneMore stored reading text files (old.named before.file) (start_cut s old) M given answer done r.moves stepped
+      → (r : Ran reading text files (old.named before.file) (start_cut s old) L any_talk done mid)
+      × RanOneMore reading text files (old.named before.file) (start_cut s old) M given answer done r.moves stepped
       × (IsTrue old.prints → stepped.printed ≡ (last_cut (start_cut s old) r.moves).told ++ given.said)
   stepped_on files s told starts =
       let was = w.ran files s told (starts_less starts) in
       let r = was.0 in
       let mid_told : IsTrue mid.tells = subst IsTrue (sym w.run.goes.tells) told in
-      let around : Around stored files (old.named before.file) s1 s2 L M mid stepped = record {
+      let around : Around files (old.named before.file) s1 s2 L M mid stepped = record {
         file_is = starts.file_is ∙ sym w.same.file_stays;
         id_is = starts.id_is ∙ sym w.same.id_stays;
         name_is = w.named_is;
@@ -205,7 +205,7 @@ module _ {stored : List ℕ → List StoredBitmap} {reading : Reading} {text : �
   -- and its answer was told
   module _ {N : Knows} {new : World} (tell : Runs any_talk stepped new) (keep : (s : State) → M s → N s) (number : ℕ) (is : number ≡ length done + 1) where
     told_on : (files : Files) (s : State) → IsTrue old.tells → Starts files before K (asked (done ++ given ∷ [])) s old
-        → (moves : List Move) × (r : Ran stored reading text files (old.named before.file) (start_cut s old) N any_talk (done ++ given ∷ []) new)
+        → (moves : List Move) × (r : Ran reading text files (old.named before.file) (start_cut s old) N any_talk (done ++ given ∷ []) new)
         × (texts text r.moves ≡ texts text moves ++ (given.said ++ text number given.event answer)) × (IsTrue old.prints → stepped.printed ≡ (old.printed ++ texts text moves) ++ given.said)
         × Runs nothing (last_cut (start_cut s old) r.moves).world stepped
     told_on files s told starts =
@@ -225,7 +225,7 @@ module _ {stored : List ℕ → List StoredBitmap} {reading : Reading} {text : �
           subst (λ (moves : List Move). Runs nothing (last_cut (start_cut s old) moves).world stepped) (sym q.1) t.1.ran.reached,
         )
 
-    pub went_more : Says (text number given.event answer) stepped new → HasFiles s2 new → WentOn stored reading text before s2 K N (done ++ given ∷ []) [] old new
+    pub went_more : Says (text number given.event answer) stepped new → HasFiles s2 new → WentOn reading text before s2 K N (done ++ given ∷ []) [] old new
     went_more says files = record {
       same = same_on w.same same;
       files = files;
@@ -245,7 +245,7 @@ module _ {stored : List ℕ → List StoredBitmap} {reading : Reading} {text : �
     -- what gives the events failed while it was told
     stopped_while_telling : (why : Halt) → PrintsPart (text number given.event answer) stepped new → (OwesAll {T = Unit {0}} (Err why) → Says (text number given.event answer) stepped new) → HaltedFor why stepped new
         → {ended : Bool} {over : List ℕ → Type 0} → (files : Files) (s : State) → IsTrue old.tells → Starts files before K (asked (done ++ given ∷ [])) s old
-        → RanEvents {T = Unit {0}} stored reading text files (old.named before.file) s N (Err why) ended over (done ++ given ∷ []) old new
+        → RanEvents {T = Unit {0}} reading text files (old.named before.file) s N (Err why) ended over (done ++ given ∷ []) old new
     stopped_while_telling why part whole failed files s told starts =
         let t = told_on files s told starts in
         let stepped_prints : IsTrue old.prints → IsTrue stepped.prints = λ prints. subst IsTrue (sym (run.goes.prints ∙ w.run.goes.prints)) prints in
@@ -279,9 +279,9 @@ module _ {stored : List ℕ → List StoredBitmap} {reading : Reading} {text : �
     -- of all that was given
     pub stopped_telling : {all : List Given} → done ++ given ∷ [] ≡ all → (why : Halt) → PrintsPart (text number given.event answer) stepped new → (OwesAll {T = Unit {0}} (Err why) → Says (text number given.event answer) stepped new) → HaltedFor why stepped new
         → {ended : Bool} {over : List ℕ → Type 0} → (files : Files) (s : State) → IsTrue old.tells → Starts files before K (asked all) s old
-        → RanEvents {T = Unit {0}} stored reading text files (old.named before.file) s N (Err why) ended over all old new
+        → RanEvents {T = Unit {0}} reading text files (old.named before.file) s N (Err why) ended over all old new
     stopped_telling {all} is_all why part whole failed {ended} {over} = subst
-        (λ (gs : List Given). (files : Files) (s : State) → IsTrue old.tells → Starts files before K (asked gs) s old → RanEvents {T = Unit {0}} stored reading text files (old.named before.file) s N (Err why) ended over gs old new)
+        (λ (gs : List Given). (files : Files) (s : State) → IsTrue old.tells → Starts files before K (asked gs) s old → RanEvents {T = Unit {0}} reading text files (old.named before.file) s N (Err why) ended over gs old new)
         is_all (stopped_while_telling why part whole failed {ended = ended} {over = over})
 
 -- ---- the loop's start and its exits
@@ -306,10 +306,10 @@ but_last {done} {given} g is = record {
   less = λ files w covers. covers_less files done g w (subst (λ (gs : List Given). Covers files (asked gs) w) is covers);
 }
 
-pub none_went : {stored : List ℕ → List StoredBitmap} {reading : Reading} {text : ℕ → Event → Answer → List ℕ} {shown : Shown} {K : Knows} {w : World}
-    → ((s : State) → K s → HoldsIn stored shown.file shown.id s w) → HasFiles shown w
-    → WentOn stored reading text shown shown K K [] [] w w
-none_went {stored} {text} {shown} {K} {w} safe given = record {
+pub none_went : {reading : Reading} {text : ℕ → Event → Answer → List ℕ} {shown : Shown} {K : Knows} {w : World}
+    → ((s : State) → K s → HoldsIn shown.file shown.id s w) → HasFiles shown w
+    → WentOn reading text shown shown K K [] [] w w
+none_went {text} {shown} {K} {w} safe given = record {
   same = same_none shown;
   files = given;
   run = stay any_call w;
@@ -319,7 +319,7 @@ none_went {stored} {text} {shown} {K} {w} safe given = record {
       (r.0, λ prints. sym (append-nil w.printed) ∙ ap (λ (moves : List Move). (last_cut (start_cut s w) moves).told ++ []) (sym r.1));
 }
 
-module _ {stored : List ℕ → List StoredBitmap} {reading : Reading} {text : ℕ → Event → Answer → List ℕ} {before after : Shown} {K L : Knows} {done given : List Given} {rest : List ℕ} {old mid : World} (w : WentOn stored reading text before after K L done rest old mid)
+module _ {reading : Reading} {text : ℕ → Event → Answer → List ℕ} {before after : Shown} {K L : Knows} {done given : List Given} {rest : List ℕ} {old mid : World} (w : WentOn reading text before after K L done rest old mid)
     (by : CarriedBut done given) where
   starts_done : {files : Files} {s : State} → Starts files before K (asked given) s old → Starts files before K (asked done) s old
   starts_done {files} starts = record { file_is = starts.file_is; id_is = starts.id_is; keeps = starts.keeps; backups = starts.backups; covers = by.less files old starts.covers }
@@ -331,7 +331,7 @@ module _ {stored : List ℕ → List StoredBitmap} {reading : Reading} {text : �
 
   -- it ended well
   pub ended_well : {x : Unit {0}} {ended : Bool} {over : List ℕ → Type 0} → length done ≡ length given → IsAtEnd over ended rest → (files : Files) (s : State) → IsTrue old.tells → Starts files before K (asked given) s old
-      → RanEvents stored reading text files (old.named before.file) s L (Ok x) ended over given old mid
+      → RanEvents reading text files (old.named before.file) s L (Ok x) ended over given old mid
   ended_well all at_end files s told starts =
       let was = w.ran files s told (starts_done starts) in
       let printed = went_printed files s told (starts_done starts) in
@@ -339,7 +339,7 @@ module _ {stored : List ℕ → List StoredBitmap} {reading : Reading} {text : �
 
   -- or found no memory for the answer to the next event
   pub stopped_early : {ended : Bool} {over : List ℕ → Type 0} → (files : Files) (s : State) → IsTrue old.tells → Starts files before K (asked given) s old
-      → RanEvents {T = Unit {0}} stored reading text files (old.named before.file) s L (Err Memory) ended over given old mid
+      → RanEvents {T = Unit {0}} reading text files (old.named before.file) s L (Err Memory) ended over given old mid
   stopped_early files s told starts =
       let was = w.ran files s told (starts_done starts) in
       let printed = went_printed files s told (starts_done starts) in
@@ -348,7 +348,7 @@ module _ {stored : List ℕ → List StoredBitmap} {reading : Reading} {text : �
   -- or at a command that found no memory
   pub stopped_within : {M : Knows} (s2 : Shown) (event : Event) (answer : Answer) {new : World} {ended : Bool} {over : List ℕ → Type 0} → IsTrue (is_command event) → Runs (works_on after s2 new event answer) mid new
       → ((s : State) → L s → M s) → (files : Files) (s : State) → IsTrue old.tells → Starts files before K (asked given) s old
-      → RanEvents {T = Unit {0}} stored reading text files (old.named before.file) s M (Err Memory) ended over given old new
+      → RanEvents {T = Unit {0}} reading text files (old.named before.file) s M (Err Memory) ended over given old new
   stopped_within {M} s2 event answer {new} command run keep files s told starts =
       let was = w.ran files s told (starts_done starts) in
       let q = spared_on (subst IsTrue (sym (run.goes.tells ∙ w.run.goes.tells)) told) run (works_within after s2 new event answer) (no_files event command) (λ name none. none) keep was.0 talk_within
@@ -377,10 +377,10 @@ module _ {stored : List ℕ → List StoredBitmap} {reading : Reading} {text : �
       command_reads event command = record { files = λ f works. no_files event command f works; reads = λ f is. tt; names = λ name none. none; text = λ none. tt; wire = λ none. tt }
 
 -- what gives the events failed before the next one
-module _ {stored : List ℕ → List StoredBitmap} {reading : Reading} {text : ℕ → Event → Answer → List ℕ} {before after : Shown} {K L M : Knows} {done given : List Given} {more : List ℕ} {old mid new : World} (by : CarriedBut done given) where
-  pub stopped_asking : WentOn stored reading text before after K L done [] old mid → Runs any_talk mid new → ((s : State) → L s → M s) → Says more mid new → (why : Halt) → HaltedFor why mid new
+module _ {reading : Reading} {text : ℕ → Event → Answer → List ℕ} {before after : Shown} {K L M : Knows} {done given : List Given} {more : List ℕ} {old mid new : World} (by : CarriedBut done given) where
+  pub stopped_asking : WentOn reading text before after K L done [] old mid → Runs any_talk mid new → ((s : State) → L s → M s) → Says more mid new → (why : Halt) → HaltedFor why mid new
       → {ended : Bool} {over : List ℕ → Type 0} → (files : Files) (s : State) → IsTrue old.tells → Starts files before K (asked given) s old
-      → RanEvents {T = Unit {0}} stored reading text files (old.named before.file) s M (Err why) ended over given old new
+      → RanEvents {T = Unit {0}} reading text files (old.named before.file) s M (Err why) ended over given old new
   stopped_asking w talk keep says why failed files s told starts =
       let was = w.ran files s told (record { file_is = starts.file_is; id_is = starts.id_is; keeps = starts.keeps; backups = starts.backups; covers = by.less files old starts.covers }) in
       let told_new : IsTrue new.tells = subst IsTrue (sym (talk.goes.tells ∙ w.run.goes.tells)) told in

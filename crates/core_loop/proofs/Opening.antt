@@ -24,30 +24,30 @@ use Rattle.core_loop.proofs.Going.{Knows, left_since}
 -- ---- from rest to rest
 
 -- An opening that syncs first, and from then on leaves an image that is ready for the history itself, leads from rest to rest.
-pub opening_leads : {stored : List ℕ → List StoredBitmap} {allows : List Directory} {d : Directory} {id : List ℕ} {h : History} {disks : List (List ℕ)} (f : ℕ) {old new : World} → old.now ≤ new.now → IsHistory h → Mixes h disks
-    → Allows allows d → EachNow old f (IsSafe stored allows id h disks) → OpensWithin stored f d id h old new
-    → EachSince new old.now f (IsSafe stored (or_marked allows) id h disks) × Holds f (IsReady stored (or_marked allows) id h) (IsSafe stored (or_marked allows) id h disks) new
-opening_leads {stored} {allows} {d} {id} {h} {disks} f {old} {new} later history mixes there safe within =
-    (since, record { seen = λ told. ready_more found within.seen; each = now_since new old.now f (IsSafe stored (or_marked allows) id h disks) later since })
+pub opening_leads : {allows : List Directory} {d : Directory} {id : List ℕ} {h : History} {disks : List (List ℕ)} (f : ℕ) {old new : World} → old.now ≤ new.now → IsHistory h → Mixes h disks
+    → Allows allows d → EachNow old f (IsSafe allows id h disks) → OpensWithin f d id h old new
+    → EachSince new old.now f (IsSafe (or_marked allows) id h disks) × Holds f (IsReady (or_marked allows) id h) (IsSafe (or_marked allows) id h disks) new
+opening_leads {allows} {d} {id} {h} {disks} f {old} {new} later history mixes there safe within =
+    (since, record { seen = λ told. ready_more found within.seen; each = now_since new old.now f (IsSafe (or_marked allows) id h disks) later since })
   where
     found : Sub (d ∷ marked d ∷ []) (or_marked allows)
     found other is = allows_found allows d other there is
 
-    since : EachSince new old.now f (IsSafe stored (or_marked allows) id h disks)
-    since = since_more new old.now f (λ c. IsSafe stored allows id h disks c ⊎ IsReady stored (d ∷ marked d ∷ []) id h c) (IsSafe stored (or_marked allows) id h disks)
-        (λ c was. ⊎_elim (λ (is : IsSafe stored allows id h disks c). safe_more (λ x known. allows_left allows (map marked allows) x known) is)
-        (λ (ready : IsReady stored (d ∷ marked d ∷ []) id h c). ready_is_safe history (All-contains (IsLikeDisk h) disks (now h) mixes.alike mixes.among).whole (mixes_keep history mixes) (ready_more found ready)) was)
-        (since_sync (IsSafe stored allows id h disks) (IsReady stored (d ∷ marked d ∷ []) id h) safe within.since)
+    since : EachSince new old.now f (IsSafe (or_marked allows) id h disks)
+    since = since_more new old.now f (λ c. IsSafe allows id h disks c ⊎ IsReady (d ∷ marked d ∷ []) id h c) (IsSafe (or_marked allows) id h disks)
+        (λ c was. ⊎_elim (λ (is : IsSafe allows id h disks c). safe_more (λ x known. allows_left allows (map marked allows) x known) is)
+        (λ (ready : IsReady (d ∷ marked d ∷ []) id h c). ready_is_safe history (All-contains (IsLikeDisk h) disks (now h) mixes.alike mixes.among).whole (mixes_keep history mixes) (ready_more found ready)) was)
+        (since_sync (IsSafe allows id h disks) (IsReady (d ∷ marked d ∷ []) id h) safe within.since)
 
 -- a new source is at rest for its own history
-pub source_begins : {stored : List ℕ → List StoredBitmap} {allows : List Directory} (id : List ℕ) {h : History} (f : ℕ) {new : World} → IsHistory h → (n : ℕ) × (length (now h) ≡ n * 512) → Holds f (IsReady stored allows id h) (IsReady stored allows id h) new
-    → AreLawful stored allows (record { source = f; id = id; backups = [] }) h (now h ∷ []) new
-source_begins {stored} {allows} id {h} f {new} history whole made = record {
+pub source_begins : {allows : List Directory} (id : List ℕ) {h : History} (f : ℕ) {new : World} → IsHistory h → (n : ℕ) × (length (now h) ≡ n * 512) → Holds f (IsReady allows id h) (IsReady allows id h) new
+    → AreLawful allows (record { source = f; id = id; backups = [] }) h (now h ∷ []) new
+source_begins {allows} id {h} f {new} history whole made = record {
   history_is = history;
   mixes = record { among = (0, omega arith, refl); alike = All-cons (IsLikeDisk h) (now h) [] (record { long = length-now h history.inside; whole = whole }) (All-nil (IsLikeDisk h)) };
   source = record {
     seen = made.seen;
-    each = now_more new f (IsReady stored allows id h) (IsSafe stored allows id h (now h ∷ [])) (λ c ready. ready_is_safe history whole
+    each = now_more new f (IsReady allows id h) (IsSafe allows id h (now h ∷ [])) (λ c ready. ready_is_safe history whole
         (record { long = All-cons (λ d. length (now h) ≡ length d) (now h) [] refl (All-nil (λ d. length (now h) ≡ length d)); kept = λ k below. (0, now h, omega arith, refl, refl) }) ready) made.each;
   };
   apart = λ g named is. omega (arith, named.1);
@@ -57,8 +57,8 @@ source_begins {stored} {allows} id {h} f {new} history whole made = record {
 -- ---- calls on the source alone
 
 -- one that is ready is no backup, so these calls keep what is sealed, and make no blank target
-module _ {stored : List ℕ → List StoredBitmap} {allows : List Directory} {id : List ℕ} {h : History} {file : ℕ} {old new : World} (run : Runs (only_file file) old new) where
-  pub source_stays : IsTrue old.tells → IsReady stored allows id h (old.seen file) → StaysSealed old new
+module _ {allows : List Directory} {id : List ℕ} {h : History} {file : ℕ} {old new : World} (run : Runs (only_file file) old new) where
+  pub source_stays : IsTrue old.tells → IsReady allows id h (old.seen file) → StaysSealed old new
   source_stays told ready f b base p sealed = record {
     since = λ holds. (spare_leads f _ _ run (other (holds.seen told))).since holds;
     after = λ holds. (spare_leads f _ _ run (other (holds.seen told))).after holds;
@@ -67,7 +67,7 @@ module _ {stored : List ℕ → List StoredBitmap} {allows : List Directory} {id
       other : {g : ℕ} → IsBackupOf (old.seen g) b → g ≡ file → ⊥
       other is same = one_kind ready.finds.source (subst (λ (x : ℕ). IsBackupOf (old.seen x) b) same is).in_order
 
-  pub source_blanks : IsReady stored allows id h (new.seen file) → NoNewBlanks old new
+  pub source_blanks : IsReady allows id h (new.seen file) → NoNewBlanks old new
   source_blanks ready f size store target = (size, store, subst (λ (c : List ℕ). IsTargetOf c true size store) (run.files f other).seen target)
     where
       other : f ≡ file → ⊥
@@ -75,26 +75,26 @@ module _ {stored : List ℕ → List StoredBitmap} {allows : List Directory} {id
 
 -- ---- an opening, whatever it answered
 
-pub record OpenCall (stored : List ℕ → List StoredBitmap) (file : ℕ) (old new : World) : Type 0 where
+pub record OpenCall (file : ℕ) (old new : World) : Type 0 where
   pub within : (d : Directory) (allows : List Directory) (id : List ℕ) (h : History) (disks : List (List ℕ)) → IsTrue old.tells → IsHistory h
-      → IsReady stored (d ∷ []) id h (old.seen file) → Holds file (IsReady stored allows id h) (IsSafe stored allows id h disks) old → OpensWithin stored file d id h old new
+      → IsReady (d ∷ []) id h (old.seen file) → Holds file (IsReady allows id h) (IsSafe allows id h disks) old → OpensWithin file d id h old new
   pub run : Runs (only_file file) old new
 
 -- what reads give has the very directory that is found
-pub just_found : {stored : List ℕ → List StoredBitmap} {allows : List Directory} {id : List ℕ} {h : History} {file : List ℕ} (r : IsReady stored allows id h file) → IsReady stored (directory_of r.opening ∷ []) id h file
+pub just_found : {allows : List Directory} {id : List ℕ} {h : History} {file : List ℕ} (r : IsReady allows id h file) → IsReady (directory_of r.opening ∷ []) id h file
 just_found r = record { opening = r.opening; finds = r.finds; entries_are = r.entries_are; allowed = inl refl }
 
-module _ {stored : List ℕ → List StoredBitmap} {allows : List Directory} {files : Files} {h : History} {disks : List (List ℕ)} {old new : World}
-    (call : OpenCall stored files.source old new) (lawful : AreLawful stored allows files h disks old) (told : IsTrue old.tells) where
-  pub opens_within : (d : Directory) × Allows allows d × OpensWithin stored files.source d files.id h old new
+module _ {allows : List Directory} {files : Files} {h : History} {disks : List (List ℕ)} {old new : World}
+    (call : OpenCall files.source old new) (lawful : AreLawful allows files h disks old) (told : IsTrue old.tells) where
+  pub opens_within : (d : Directory) × Allows allows d × OpensWithin files.source d files.id h old new
   opens_within =
       let ready = lawful.source.seen told in
       (directory_of ready.opening, ready.allowed, call.within (directory_of ready.opening) allows files.id h disks told lawful.history_is (just_found ready) lawful.source)
 
-  leads : EachSince new old.now files.source (IsSafe stored (or_marked allows) files.id h disks) × Holds files.source (IsReady stored (or_marked allows) files.id h) (IsSafe stored (or_marked allows) files.id h disks) new
+  leads : EachSince new old.now files.source (IsSafe (or_marked allows) files.id h disks) × Holds files.source (IsReady (or_marked allows) files.id h) (IsSafe (or_marked allows) files.id h disks) new
   leads = opening_leads files.source call.run.goes.later lawful.history_is lawful.mixes opens_within.1 lawful.source.each opens_within.2
 
-  pub open_rest : AreLawful stored (or_marked allows) files h disks new
+  pub open_rest : AreLawful (or_marked allows) files h disks new
   open_rest = record {
     history_is = lawful.history_is;
     mixes = lawful.mixes;
@@ -103,14 +103,14 @@ module _ {stored : List ℕ → List StoredBitmap} {allows : List Directory} {fi
     backups = λ f named. (spare_leads f _ _ call.run (lawful.apart f named)).after (lawful.backups f named);
   }
 
-  pub open_crashes : (k : ℕ) (left : ℕ → Option (List ℕ)) → old.now ≤ k → k ≤ new.now → IsLeftAt new k left → LeftLawful stored (or_marked allows) files h disks left
+  pub open_crashes : (k : ℕ) (left : ℕ → Option (List ℕ)) → old.now ≤ k → k ≤ new.now → IsLeftAt new k left → LeftLawful (or_marked allows) files h disks left
   open_crashes k left low high is = left_since old.now k leads.0 (λ f named. (spare_leads f _ (IsLawfulTarget files.id h) call.run (lawful.apart f named)).since (lawful.backups f named)) low high is
 
   pub open_stays : StaysSealed old new
   open_stays = source_stays call.run told (lawful.source.seen told)
 
   -- where a node begins, a run of events may start
-  pub may_start : {shown : Shown} {K : Knows} {events : List Event} → shown.file ≡ files.source → (begins : NodeBegins stored allows shown K files.source files.id h old new) → Covers files events old
+  pub may_start : {shown : Shown} {K : Knows} {events : List Event} → shown.file ≡ files.source → (begins : NodeBegins allows shown K files.source files.id h old new) → Covers files events old
       → Starts files shown K events (first_state h (record begins.opening { taken = begins.taken; given = begins.given })) new
   unfolding opened
   may_start file_is begins covers = record {
@@ -124,14 +124,14 @@ module _ {stored : List ℕ → List StoredBitmap} {allows : List Directory} {fi
   }
 
 -- where it answered Ok, a session begins
-pub node_begins : {stored : List ℕ → List StoredBitmap} {allows : List Directory} {files : Files} {h : History} {disks : List (List ℕ)} {shown : Shown} {K : Knows} {file : ℕ} {old new : World} → Opened stored file shown K old new → files.source ≡ file → IsTrue old.tells
-    → old.found (old.named file) ≡ Some file → AreLawful stored allows files h disks old → NodeBegins stored allows shown K files.source files.id h old new
-node_begins {stored} {allows} {files} {h} {disks} {shown} {K} {file} {old} {new} opened is told found lawful =
-    subst (λ (f : ℕ). NodeBegins stored allows shown K f files.id h old new) (sym is)
-    (opened.begins allows files.id h disks told found lawful.history_is (subst (λ (f : ℕ). Holds f (IsReady stored allows files.id h) (IsSafe stored allows files.id h disks) old) is lawful.source))
+pub node_begins : {allows : List Directory} {files : Files} {h : History} {disks : List (List ℕ)} {shown : Shown} {K : Knows} {file : ℕ} {old new : World} → Opened file shown K old new → files.source ≡ file → IsTrue old.tells
+    → old.found (old.named file) ≡ Some file → AreLawful allows files h disks old → NodeBegins allows shown K files.source files.id h old new
+node_begins {allows} {files} {h} {disks} {shown} {K} {file} {old} {new} opened is told found lawful =
+    subst (λ (f : ℕ). NodeBegins allows shown K f files.id h old new) (sym is)
+    (opened.begins allows files.id h disks told found lawful.history_is (subst (λ (f : ℕ). Holds f (IsReady allows files.id h) (IsSafe allows files.id h disks) old) is lawful.source))
 
-pub call_of : {stored : List ℕ → List StoredBitmap} (files : Files) {file : ℕ} {old new : World} → files.source ≡ file → OpenCall stored file old new → OpenCall stored files.source old new
-call_of {stored} files {file} {old} {new} is call = subst (λ (f : ℕ). OpenCall stored f old new) (sym is) call
+pub call_of : (files : Files) {file : ℕ} {old new : World} → files.source ≡ file → OpenCall file old new → OpenCall files.source old new
+call_of files {file} {old} {new} is call = subst (λ (f : ℕ). OpenCall f old new) (sym is) call
 
 pub file_within : (f : ℕ) → Within (only_file f) any_call
 file_within f = record { files = λ g is. tt; reads = λ g is. tt; names = λ name none. none; text = λ none. tt; wire = λ none. tt }

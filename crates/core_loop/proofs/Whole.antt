@@ -28,16 +28,16 @@ use Rattle.core_loop.specs.declared.session.Stop.{Stop}
 use Rattle.core_loop.specs.declared.session.Stop.TheVariants.{Halted}
 
 -- the state in which a session begins
-abbrev pub begin_state : {stored : List ℕ → List StoredBitmap} {allows : List Directory} {shown : Shown} {K : Knows} {file : ℕ} {id : List ℕ} {h : History} {old new : World} → NodeBegins stored allows shown K file id h old new → State
+abbrev pub begin_state : {allows : List Directory} {shown : Shown} {K : Knows} {file : ℕ} {id : List ℕ} {h : History} {old new : World} → NodeBegins allows shown K file id h old new → State
 begin_state {h = h} begins = first_state h (record begins.opening { taken = begins.taken; given = begins.given })
 
 pub moved_to : (P : ℕ → List ℕ → Type 0) {f g : ℕ} {i j : List ℕ} → f ≡ g → i ≡ j → P f i → P g j
 moved_to P {f} {g} {i} {j} file id has = subst (λ (x : ℕ). P x j) file (subst (λ (y : List ℕ). P f y) id has)
 
-module _ {stored : List ℕ → List StoredBitmap} {reading : Reading} {text : ℕ → Event → Answer → List ℕ} {allows : List Directory} {files : Files} {name : List ℕ} {h : History} {disks : List (List ℕ)} {given : List Given} {over : List ℕ → Type 0} {shown after : Shown} {K L : Knows} {old mid new : World}
-    (call : OpenCall stored files.source old mid) (lawful : AreLawful stored allows files h disks old) (told : IsTrue old.tells) (file_is : shown.file ≡ files.source) (begins : NodeBegins stored allows shown K files.source files.id h old mid)
-    (same : SameSource shown after) (stands : (s : State) → L s → StandsFor after new s.machine) (safe : (s : State) → L s → HoldsIn stored after.file after.id s new) (mixes : (s : State) → L s → Mixes s.machine.history s.disks)
-    {E : Type 0} {halt : Result E Halt} {done : Bool} (r : RanEvents stored reading text files name (begin_state begins) L halt done over given mid new) where
+module _ {reading : Reading} {text : ℕ → Event → Answer → List ℕ} {allows : List Directory} {files : Files} {name : List ℕ} {h : History} {disks : List (List ℕ)} {given : List Given} {over : List ℕ → Type 0} {shown after : Shown} {K L : Knows} {old mid new : World}
+    (call : OpenCall files.source old mid) (lawful : AreLawful allows files h disks old) (told : IsTrue old.tells) (file_is : shown.file ≡ files.source) (begins : NodeBegins allows shown K files.source files.id h old mid)
+    (same : SameSource shown after) (stands : (s : State) → L s → StandsFor after new s.machine) (safe : (s : State) → L s → HoldsIn after.file after.id s new) (mixes : (s : State) → L s → Mixes s.machine.history s.disks)
+    {E : Type 0} {halt : Result E Halt} {done : Bool} (r : RanEvents reading text files name (begin_state begins) L halt done over given mid new) where
   abbrev first : Cut
   first = start_cut (begin_state begins) mid
 
@@ -53,29 +53,29 @@ module _ {stored : List ℕ → List StoredBitmap} {reading : Reading} {text : �
   pub id_same : after.id ≡ files.id
   id_same = same.id_stays ∙ begins.id_is
 
-  source_rests : HoldsIn stored files.source files.id last.state new
-  source_rests = moved_to (λ f id. HoldsIn stored f id last.state new) file_same id_same (safe last.state r.ran.keeps)
+  source_rests : HoldsIn files.source files.id last.state new
+  source_rests = moved_to (λ f id. HoldsIn f id last.state new) file_same id_same (safe last.state r.ran.keeps)
 
   crashes_to_here : (k : ℕ) (left : ℕ → Option (List ℕ)) → old.now ≤ k → k ≤ new.now → IsLeftAt new k left
-      → ((k < mid.now) × LeftLawful stored (or_marked allows) files h disks left) ⊎ ((mid.now ≤ k) × LeftAt stored files k left first r.ran.moves)
+      → ((k < mid.now) × LeftLawful (or_marked allows) files h disks left) ⊎ ((mid.now ≤ k) × LeftAt files k left first r.ran.moves)
   crashes_to_here k left low high is = elim (cases_lt k mid.now) [
     | inl before ↦ inl (before, open_crashes call lawful told k left low (omega arith) (left_back run (omega arith) is))
     | inr since ↦ inr (since, r.ran.crashes k left since high is)
   ]
 
   -- the session was closed, or not
-  module _ {end : World} (close : Runs (only_file files.source) new end) (closes : Closes stored files.source files.id last.state new end) where
+  module _ {end : World} (close : Runs (only_file files.source) new end) (closes : Closes files.source files.id last.state new end) where
     backups_end : BackupsHold files last.state.machine end
     backups_end f named = (spare_leads f _ _ close (lawful.apart f named)).after (r.ran.backups f named)
 
     crashes_to_end : (k : ℕ) (left : ℕ → Option (List ℕ)) → old.now ≤ k → k ≤ end.now → IsLeftAt end k left
-        → ((k < mid.now) × LeftLawful stored (or_marked allows) files h disks left)
-        ⊎ (((mid.now ≤ k) × (k ≤ new.now) × LeftAt stored files k left first r.ran.moves)
-        ⊎ ((new.now < k) × LeftLawful stored (in_closing last.state) files last.state.machine.history last.state.disks left))
+        → ((k < mid.now) × LeftLawful (or_marked allows) files h disks left)
+        ⊎ (((mid.now ≤ k) × (k ≤ new.now) × LeftAt files k left first r.ran.moves)
+        ⊎ ((new.now < k) × LeftLawful (in_closing last.state) files last.state.machine.history last.state.disks left))
     crashes_to_end k left low high is = elim (cases_lt new.now k) [
       | inr before ↦ ⊎_elim
-          (λ (here : (k < mid.now) × LeftLawful stored (or_marked allows) files h disks left). inl here)
-          (λ (later : (mid.now ≤ k) × LeftAt stored files k left first r.ran.moves). inr (inl (later.0, before, later.1)))
+          (λ (here : (k < mid.now) × LeftLawful (or_marked allows) files h disks left). inl here)
+          (λ (later : (mid.now ≤ k) × LeftAt files k left first r.ran.moves). inr (inl (later.0, before, later.1)))
           (crashes_to_here k left low before (left_back close before is))
       | inl since ↦ inr (inr (
         since,
@@ -99,7 +99,7 @@ module _ {stored : List ℕ → List StoredBitmap} {reading : Reading} {text : �
     }
 
     pub has_begun : {T : Type 0} {result : Result T Stop} {answer : Answer} → (OwesTexts result → OwesAll halt) → (IsOk result → IsOk halt) → (IsOk result → IsTrue done → IsTrue last.state.machine.ended)
-        → (IsOk result → Closed stored files.source files.id last.state new end answer) → StoppedIn result files.source last.state last.world new end → Begun stored reading text allows files name h disks result over given answer old end
+        → (IsOk result → Closed files.source files.id last.state new end answer) → StoppedIn result files.source last.state last.world new end → Begun reading text allows files name h disks result over given answer old end
     has_begun owes ok ends closed stopped = record {
       opening = begins.opening;
       taken = begins.taken;
@@ -151,13 +151,13 @@ module _ {stored : List ℕ → List StoredBitmap} {reading : Reading} {text : �
   in_both : Sub (in_session last.state) (in_closing last.state)
   in_both d is = allows_left (in_session last.state) (closed_directory last.state ∷ []) d is
 
-  stays_closed : Closes stored files.source files.id last.state new new
+  stays_closed : Closes files.source files.id last.state new new
   stays_closed = record {
     since = since_now new files.source _ (λ c left. safe_more in_both (source_rests.each c left));
     rest = record { seen = λ told. ready_more in_both (source_rests.seen told); each = λ c left. safe_more in_both (source_rests.each c left) };
   }
 
-  pub has_stopped : {T : Type 0} {result : Result T Stop} {answer : Answer} → (OwesTexts result → OwesAll halt) → (IsOk result → ⊥) → StoppedIn result files.source last.state last.world new new → Begun stored reading text allows files name h disks result over given answer old new
+  pub has_stopped : {T : Type 0} {result : Result T Stop} {answer : Answer} → (OwesTexts result → OwesAll halt) → (IsOk result → ⊥) → StoppedIn result files.source last.state last.world new new → Begun reading text allows files name h disks result over given answer old new
   has_stopped owes ill stopped = has_begun (stay (only_file files.source) new) stays_closed owes (λ well. absurd (ill well)) (λ well. absurd (ill well)) (λ well. absurd (ill well)) stopped
 
 pub owes_halted : (T S : Type 0) (why : Halt) → OwesTexts {T = T} (Err (Halted why)) → OwesAll {T = S} (Err why)

@@ -87,11 +87,11 @@ IsWithin from move s = (s ≡ during from.state move.event (now move.cut.state.m
 
 -- What a crash left at moment k is lawful for the history of the last cut before it. Within an event that is the history before the event,
 -- and the write in progress may be on the disk in part, or the one after it.
-abbrev pub LeftAt : (List ℕ → List StoredBitmap) → Files → ℕ → (ℕ → Option (List ℕ)) → Cut → List Move → Type 0
-LeftAt stored files k left from [] = LeftIn stored files from.state left
-LeftAt stored files k left from (move ∷ moves) =
-    ((k < move.cut.world.now) × ((s : State) × IsWithin from move s × LeftIn stored files s left))
-    ⊎ ((move.cut.world.now ≤ k) × LeftAt stored files k left move.cut moves)
+abbrev pub LeftAt : Files → ℕ → (ℕ → Option (List ℕ)) → Cut → List Move → Type 0
+LeftAt files k left from [] = LeftIn files from.state left
+LeftAt files k left from (move ∷ moves) =
+    ((k < move.cut.world.now) × ((s : State) × IsWithin from move s × LeftIn files s left))
+    ⊎ ((move.cut.world.now ≤ k) × LeftAt files k left move.cut moves)
 
 -- what was said before each, and the text of its answer
 abbrev pub texts : (ℕ → Event → Answer → List ℕ) → List Move → List ℕ
@@ -108,5 +108,5 @@ StageAt k s from (move ∷ moves) =
     ⊎ ((move.cut.world.now ≤ k) × StageAt k s move.cut moves)
 
 -- each crash since the cut
-abbrev pub CrashesAfter : (List ℕ → List StoredBitmap) → Files → Cut → List Move → World → Type 0
-CrashesAfter stored files from moves w = (k : ℕ) (left : ℕ → Option (List ℕ)) → from.world.now ≤ k → k ≤ w.now → IsLeftAt w k left → LeftAt stored files k left from moves
+abbrev pub CrashesAfter : Files → Cut → List Move → World → Type 0
+CrashesAfter files from moves w = (k : ℕ) (left : ℕ → Option (List ℕ)) → from.world.now ≤ k → k ≤ w.now → IsLeftAt w k left → LeftAt files k left from moves

@@ -14,19 +14,19 @@ use Rattle.core_loop.specs.Crashes.{ChainsGiveDisks}
 
 -- files at rest, as reads give them, make chains that give the disk at the last point
 abbrev pub ChainsAtRestGiveDisks : Type 0
-ChainsAtRestGiveDisks = (stored : List ℕ → List StoredBitmap) (allows : List Directory) (files : Files) (h : History) (disks : List (List ℕ)) (w : World) → AreLawful stored allows files h disks w → IsTrue w.tells
+ChainsAtRestGiveDisks = (allows : List Directory) (files : Files) (h : History) (disks : List (List ℕ)) (w : World) → AreLawful allows files h disks w → IsTrue w.tells
     → ChainsGiveDisks files h (λ f. Some (w.seen f))
 
 -- an opening that syncs first, and from then on leaves an image that is ready for the history itself, leads from rest to rest
 abbrev pub OpeningLeads : Type 0
-OpeningLeads = (stored : List ℕ → List StoredBitmap) (allows : List Directory) (d : Directory) (id : List ℕ) (h : History) (disks : List (List ℕ)) (f : ℕ) (old new : World) → old.now ≤ new.now → IsHistory h → Mixes h disks
-    → Allows allows d → EachNow old f (IsSafe stored allows id h disks) → OpensWithin stored f d id h old new
-    → EachSince new old.now f (IsSafe stored (or_marked allows) id h disks) × Holds f (IsReady stored (or_marked allows) id h) (IsSafe stored (or_marked allows) id h disks) new
+OpeningLeads = (allows : List Directory) (d : Directory) (id : List ℕ) (h : History) (disks : List (List ℕ)) (f : ℕ) (old new : World) → old.now ≤ new.now → IsHistory h → Mixes h disks
+    → Allows allows d → EachNow old f (IsSafe allows id h disks) → OpensWithin f d id h old new
+    → EachSince new old.now f (IsSafe (or_marked allows) id h disks) × Holds f (IsReady (or_marked allows) id h) (IsSafe (or_marked allows) id h disks) new
 
 -- a file that is made as a source is at rest for its own history
 abbrev pub SourcesBegin : Type 0
-SourcesBegin = (stored : List ℕ → List StoredBitmap) (allows : List Directory) (id : List ℕ) (h : History) (f : ℕ) (new : World) → IsHistory h → (n : ℕ) × (length (now h) ≡ n * 512) → Holds f (IsReady stored allows id h) (IsReady stored allows id h) new
-    → AreLawful stored allows (record { source = f; id = id; backups = [] }) h (now h ∷ []) new
+SourcesBegin = (allows : List Directory) (id : List ℕ) (h : History) (f : ℕ) (new : World) → IsHistory h → (n : ℕ) × (length (now h) ≡ n * 512) → Holds f (IsReady allows id h) (IsReady allows id h) new
+    → AreLawful allows (record { source = f; id = id; backups = [] }) h (now h ∷ []) new
 
 -- ---- laws that refuse
 

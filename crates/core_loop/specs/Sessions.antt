@@ -1,6 +1,7 @@
 -- What has to stand before a run of events, and what it leaves.
 use Rattle.std.specs.Prelude.{◌≡◌, ◌⊎◌, ℕ, ◌+◌, ◌-◌, ◌^◌, ◌<◌, ◌≤◌, List, [], ◌∷◌, ◌++◌, length, take, map, Bool, true, false, Option, Some, None, Result, Ok, Err, IsOk, IsTrue, Contains}
 use Rattle.disk_model.specs.World.{World, Parts, Runs, only_file, PrintsPart, EachSince, Holds, IsLeftAt, Rose}
+use Rattle.qc_layout.specs.Directory.{stored_in}
 use Rattle.bitmap_model.specs.Bitmap.{StoredBitmap}
 use Rattle.core_events.specs.Events.{Event}
 use Rattle.core_events.specs.Answers.{Answer}
@@ -63,13 +64,13 @@ SealsLast w id from (move ∷ moves) =
 
 -- These events were carried out as the plain machine does, and each crash since the start left the files lawful for the history before it.
 -- The node stands for the state after them, and so it can go on. From the last cut on there were calls on these parts alone.
-pub record Ran (stored : List ℕ → List StoredBitmap) (reading : Reading) (text : ℕ → Event → Answer → List ℕ) (files : Files) (name : List ℕ) (first : Cut) (keeping : State → Type 0) (parts : Parts) (given : List Given) (w : World) : Type 0 where
+pub record Ran (reading : Reading) (text : ℕ → Event → Answer → List ℕ) (files : Files) (name : List ℕ) (first : Cut) (keeping : State → Type 0) (parts : Parts) (given : List Given) (w : World) : Type 0 where
   pub moves : List Move
   pub steps : AreMoves reading text name first moves
   pub given_are : givens_of moves ≡ given
   pub keeps : keeping (last_cut first moves).state
   pub backups : BackupsHold files (last_cut first moves).state.machine w
-  pub crashes : CrashesAfter stored files first moves w
+  pub crashes : CrashesAfter files first moves w
   pub sealed : SealsLast w files.id first moves
   pub stays : StaysSealed first.world w
   pub blanks : NoNewBlanks first.world w
@@ -136,10 +137,10 @@ IsAtEnd over ended rest = over rest ⊎ (IsTrue ended × (rest ≡ []))
 
 -- Events were carried out from a state on: the first n of those that were given. All but one were, and all of them where the run ended well. After
 -- their texts a rest was printed.
-pub record RanEvents {T : Type 0} (stored : List ℕ → List StoredBitmap) (reading : Reading) (text : ℕ → Event → Answer → List ℕ) (files : Files) (name : List ℕ) (s : State) (keeping : State → Type 0)
+pub record RanEvents {T : Type 0} (reading : Reading) (text : ℕ → Event → Answer → List ℕ) (files : Files) (name : List ℕ) (s : State) (keeping : State → Type 0)
     (result : Result T Halt) (ended : Bool) (over : List ℕ → Type 0) (given : List Given) (old new : World) : Type 0 where
   pub n : ℕ
-  pub ran : Ran stored reading text files name (start_cut s old) keeping reads_and_talk (take n given) new
+  pub ran : Ran reading text files name (start_cut s old) keeping reads_and_talk (take n given) new
   pub most : length given ≤ n + 1
   pub rest : List ℕ
   pub in_part : PrintsPart (texts text ran.moves ++ rest) old new
@@ -175,31 +176,31 @@ StoppedIn (Err (Halted why)) f s last over new = HaltedFor why last over
 StoppedIn (Err (NotClosed why)) f s last over new = NotClosedFor why s × NotClosedBy why f over new
 
 -- why a session stopped
-abbrev pub StoppedFor : Stop → (List ℕ → List StoredBitmap) → ℕ → World → World → Type 0
-StoppedFor (NotOpened why) stored f old new = NotOpenedFor why stored f old new
-StoppedFor (Halted why) stored f old new = HaltedFor why old new
-StoppedFor (NotClosed why) stored f old new = NotClosedBy why f old new
+abbrev pub StoppedFor : Stop → ℕ → World → World → Type 0
+StoppedFor (NotOpened why) f old new = NotOpenedFor why f old new
+StoppedFor (Halted why) f old new = HaltedFor why old new
+StoppedFor (NotClosed why) f old new = NotClosedBy why f old new
 
 -- The image wasn't opened. Nothing was done but calls on its file. Files stay at rest, and each crash left them lawful for the history.
-pub record NotBegun {T : Type 0} (stored : List ℕ → List StoredBitmap) (allows : List Directory) (files : Files) (h : History) (disks : List (List ℕ)) (result : Result T Stop) (old new : World) : Type 0 where
+pub record NotBegun {T : Type 0} (allows : List Directory) (files : Files) (h : History) (disks : List (List ℕ)) (result : Result T Stop) (old new : World) : Type 0 where
   pub refused : IsNotOpened result
   pub run : Runs (only_file files.source) old new
-  pub opens : (d : Directory) × Allows allows d × OpensWithin stored files.source d files.id h old new
-  pub crashes : (k : ℕ) (left : ℕ → Option (List ℕ)) → old.now ≤ k → k ≤ new.now → IsLeftAt new k left → LeftLawful stored (or_marked allows) files h disks left
+  pub opens : (d : Directory) × Allows allows d × OpensWithin files.source d files.id h old new
+  pub crashes : (k : ℕ) (left : ℕ → Option (List ℕ)) → old.now ≤ k → k ≤ new.now → IsLeftAt new k left → LeftLawful (or_marked allows) files h disks left
   pub stays : StaysSealed old new
-  pub rest : AreLawful stored (or_marked allows) files h disks new
+  pub rest : AreLawful (or_marked allows) files h disks new
 
 -- A session was begun for a history, and events were carried out, the first n of those that were given. Each crash left the files lawful for the history that
 -- the events before it extend, settled, and each sector of the disk is that of a disk since the last sync that was answered. What jobs sealed
 -- lasts. At its end files are at rest again: another session may begin, of the history that all of the events extend.
-pub record Begun {T : Type 0} (stored : List ℕ → List StoredBitmap) (reading : Reading) (text : ℕ → Event → Answer → List ℕ) (allows : List Directory) (files : Files) (name : List ℕ) (h : History) (disks : List (List ℕ))
+pub record Begun {T : Type 0} (reading : Reading) (text : ℕ → Event → Answer → List ℕ) (allows : List Directory) (files : Files) (name : List ℕ) (h : History) (disks : List (List ℕ))
     (result : Result T Stop) (over : List ℕ → Type 0) (given : List Given) (answer : Answer) (old new : World) : Type 0 where
   -- the opening
   pub opening : Opening
   pub taken : ℕ
   pub freed : ℕ
   pub finds : FindsOpening (old.seen files.source) files.id h opening
-  pub entries_are : opening.entries ≡ stored (old.seen files.source)
+  pub entries_are : opening.entries ≡ stored_in (old.seen files.source)
   pub allowed : Allows allows (directory_of opening)
   pub epoch_left : opening.epoch < 2 ^ 64 - 1
   pub enough : taken ≤ opening.store.room
@@ -207,7 +208,7 @@ pub record Begun {T : Type 0} (stored : List ℕ → List StoredBitmap) (reading
   pub nothing_given : opening.entries ≡ [] → freed ≡ 0
   pub begun : World
   pub open_run : Runs (only_file files.source) old begun
-  pub opens : (d : Directory) × Allows allows d × OpensWithin stored files.source d files.id h old begun
+  pub opens : (d : Directory) × Allows allows d × OpensWithin files.source d files.id h old begun
   -- the events
   pub first : Cut
   pub first_is : first ≡ start_cut (first_state h (record opening { taken = taken; given = freed })) begun
@@ -224,18 +225,18 @@ pub record Begun {T : Type 0} (stored : List ℕ → List StoredBitmap) (reading
   pub printed : PrintsPart (texts text moves ++ last_said) old new
   pub owed : OwesTexts result → Says (texts text moves ++ last_said) old new
   pub crashes : (k : ℕ) (left : ℕ → Option (List ℕ)) → old.now ≤ k → k ≤ new.now → IsLeftAt new k left
-      → ((k < first.world.now) × LeftLawful stored (or_marked allows) files h disks left)
-      ⊎ (((first.world.now ≤ k) × (k ≤ done.now) × LeftAt stored files k left first moves)
-      ⊎ ((done.now < k) × LeftLawful stored (in_closing (last_cut first moves).state) files (last_cut first moves).state.machine.history (last_cut first moves).state.disks left))
+      → ((k < first.world.now) × LeftLawful (or_marked allows) files h disks left)
+      ⊎ (((first.world.now ≤ k) × (k ≤ done.now) × LeftAt files k left first moves)
+      ⊎ ((done.now < k) × LeftLawful (in_closing (last_cut first moves).state) files (last_cut first moves).state.machine.history (last_cut first moves).state.disks left))
   pub sealed : SealsLast new files.id first moves
   pub stays : StaysSealed old new
-  pub rest : AreLawful stored (in_closing (last_cut first moves).state) files (last_cut first moves).state.machine.history (last_cut first moves).state.disks new
+  pub rest : AreLawful (in_closing (last_cut first moves).state) files (last_cut first moves).state.machine.history (last_cut first moves).state.disks new
   -- where it was closed, nothing but prints followed the last event, each crash leaves the very disk, and what lasts of the bitmaps is stored
   pub between : IsOk result → Runs any_talk (last_cut first moves).world done
   pub all : IsOk result → (n ≡ length given) × IsAtEnd over (last_cut first moves).state.machine.ended last_said
-  pub closed : IsOk result → Closed stored files.source files.id (last_cut first moves).state done new answer
+  pub closed : IsOk result → Closed files.source files.id (last_cut first moves).state done new answer
   pub stopped : StoppedIn result files.source (last_cut first moves).state (last_cut first moves).world done new
 
-abbrev pub Session : {T : Type 0} → (List ℕ → List StoredBitmap) → Reading → (ℕ → Event → Answer → List ℕ) → List Directory → Files → List ℕ → History → List (List ℕ) → Result T Stop → (List ℕ → Type 0) → List Given → Answer → World → World → Type 0
-Session stored reading text allows files name h disks result over given answer old new =
-    NotBegun stored allows files h disks result old new ⊎ Begun stored reading text allows files name h disks result over given answer old new
+abbrev pub Session : {T : Type 0} → Reading → (ℕ → Event → Answer → List ℕ) → List Directory → Files → List ℕ → History → List (List ℕ) → Result T Stop → (List ℕ → Type 0) → List Given → Answer → World → World → Type 0
+Session reading text allows files name h disks result over given answer old new =
+    NotBegun allows files h disks result old new ⊎ Begun reading text allows files name h disks result over given answer old new

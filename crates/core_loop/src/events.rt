@@ -97,7 +97,7 @@ pub fn run_events<N: Node, D: Depot + Console, S: Source<D>>(
     requires takes { (e : events.Event) → S.gives source.old e → N.takes e }
     ensures ran { (files : Files) (s : State) → IsTrue (D.world depot.old).tells →
         Starts files (N.shown node.old) (N.keeps node.old (D.world depot.old)) (asked (S.gave source.new)) s (D.world depot.old) →
-        RanEvents N.stored N.reading S.text files ((D.world depot.old).named (N.shown node.old).file) s (N.keeps node.new (D.world depot.new)) result (N.shown node.new).ended (S.over source.new) (S.gave source.new) (D.world depot.old) (D.world depot.new) }
+        RanEvents N.reading S.text files ((D.world depot.old).named (N.shown node.old).file) s (N.keeps node.new (D.world depot.new)) result (N.shown node.new).ended (S.over source.new) (S.gave source.new) (D.world depot.old) (D.world depot.new) }
     ensures cause { IfErr result (λ why. HaltedFor why (D.world depot.old) (D.world depot.new)) }
     ensures goes { S.goes source.old source.new }
     ensures same { SameSource (N.shown node.old) (N.shown node.new) }

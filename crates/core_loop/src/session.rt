@@ -44,12 +44,12 @@ pub fn run_session<N: Node + Drop, D: Depot + Console, S: Source<D>>(
     requires takes { (e : events.Event) → S.gives source.old e → N.takes e }
     // What the session did, and that a crash at any moment of it is survived.
     ensures session { (files : Files) (allows : List Directory) (h : History) (disks : List (List ℕ)) → IsTrue (D.world depot.old).tells →
-        (D.world depot.old).found ((D.world depot.old).named file.0) ≡ Some file.0 → files.source ≡ file.0 → AreLawful N.stored allows files h disks (D.world depot.old) →
+        (D.world depot.old).found ((D.world depot.old).named file.0) ≡ Some file.0 → files.source ≡ file.0 → AreLawful allows files h disks (D.world depot.old) →
         Covers files (asked (S.gave source.new)) (D.world depot.old) →
-        (session : Session N.stored N.reading S.text allows files ((D.world depot.old).named file.0) h disks result (S.over source.new) (S.gave source.new) (plain_answer answer.new) (D.world depot.old) (D.world depot.new)) ×
+        (session : Session N.reading S.text allows files ((D.world depot.old).named file.0) h disks result (S.over source.new) (S.gave source.new) (plain_answer answer.new) (D.world depot.old) (D.world depot.new)) ×
         (WereThere files (D.world depot.old) → (k : ℕ) (left : ℕ → Option (List ℕ)) → (D.world depot.old).now ≤ k → k ≤ (D.world depot.new).now → IsLeftAt (D.world depot.new) k left → Survives k left session) }
     ensures goes { S.goes source.old source.new }
-    ensures cause { IfErr result (λ why. StoppedFor why N.stored file.0 (D.world depot.old) (D.world depot.new)) }
+    ensures cause { IfErr result (λ why. StoppedFor why file.0 (D.world depot.old) (D.world depot.new)) }
     ensures run { Runs any_call (D.world depot.old) (D.world depot.new) }
 {
     let mut node = match N::open(alloc, depot, file) {

@@ -10,6 +10,7 @@ use Rattle.bitmap_model.specs.Bitmap.{BitmapState, StoredBitmap, stored, restore
 use Rattle.bitmap_model.specs.Bitmaps.{changed}
 use Rattle.core_events.specs.Answers.{Answer}
 use Rattle.qc_layout.specs.Room.{HasRoom}
+use Rattle.qc_layout.specs.Directory.{stored_in}
 use Rattle.plain_model.specs.History.{History, now}
 use Rattle.plain_model.specs.Jobs.{Job}
 use Rattle.plain_model.specs.Machine.{Machine, opened}
@@ -25,17 +26,17 @@ use Rattle.core_node.specs.Laws.{OpensReady, ClosedStoresBitmaps, ClosedKeepsBit
 contains_map : {A B : Type 0} (f : A → B) (xs : List A) (x : A) → Contains xs x → Contains (map f xs) (f x)
 contains_map f xs x (k, below, is) = (k, grind (arith, common_steps), get_or-map f xs k x (f x) below ∙ ap f is)
 
-module _ {stored : List ℕ → List StoredBitmap} {allows : List Directory} {file : ℕ} {shown : Shown} {keeps : State → Type 0} {id : List ℕ} {h : History} {disks : List (List ℕ)} {old new : World}
+module _ {allows : List Directory} {file : ℕ} {shown : Shown} {keeps : State → Type 0} {id : List ℕ} {h : History} {disks : List (List ℕ)} {old new : World}
     (stands : (s : State) → keeps s → StandsFor shown new s.machine) (safe : (s : State) → keeps s
-    → Holds shown.file (IsReady stored (in_session s) shown.id s.machine.history) (IsSafe stored (in_session s) shown.id s.machine.history s.disks) new)
-    (o : OpensReady stored allows file shown keeps id h disks old new) where
-  pub begins : NodeBegins stored allows shown keeps file id h old new
+    → Holds shown.file (IsReady (in_session s) shown.id s.machine.history) (IsSafe (in_session s) shown.id s.machine.history s.disks) new)
+    (o : OpensReady allows file shown keeps id h disks old new) where
+  pub begins : NodeBegins allows shown keeps file id h old new
   begins = o.opened.begins allows id h disks o.told o.found o.history_is o.holds
 
   abbrev pub first : State
   first = first_state h (record begins.opening { taken = begins.taken; given = begins.given })
 
-  bitmaps_are : shown.bitmaps ≡ map restored (stored (old.seen file))
+  bitmaps_are : shown.bitmaps ≡ map restored (stored_in (old.seen file))
   unfolding opened
   bitmaps_are = (stands first begins.keeps_it).bitmaps.bitmaps_are ∙ ap (map restored) begins.entries_are
 
@@ -47,24 +48,24 @@ module _ {stored : List ℕ → List StoredBitmap} {allows : List Directory} {fi
   unfolding opened
   freed_is = (stands first begins.keeps_it).space.freed_is
 
-  still_stored : stored (new.seen file) ≡ map unused (stored (old.seen file))
+  still_stored : stored_in (new.seen file) ≡ map unused (stored_in (old.seen file))
   still_stored = by_directory ready ready.allowed
     where
-      ready : IsReady stored (in_session first) shown.id first.machine.history (new.seen file)
-      ready = subst (λ (f : ℕ). IsReady stored (in_session first) shown.id first.machine.history (new.seen f)) o.opened.file_is
+      ready : IsReady (in_session first) shown.id first.machine.history (new.seen file)
+      ready = subst (λ (f : ℕ). IsReady (in_session first) shown.id first.machine.history (new.seen f)) o.opened.file_is
           ((safe first begins.keeps_it).seen (subst IsTrue (sym o.run.goes.tells) o.told))
 
-      by_directory : (r : IsReady stored (in_session first) shown.id first.machine.history (new.seen file)) → Allows (in_session first) (directory_of r.opening) → stored (new.seen file) ≡ map unused (stored (old.seen file))
+      by_directory : (r : IsReady (in_session first) shown.id first.machine.history (new.seen file)) → Allows (in_session first) (directory_of r.opening) → stored_in (new.seen file) ≡ map unused (stored_in (old.seen file))
       by_directory r (inl is) = sym r.entries_are ∙ ap (λ (d : Directory). d.entries) is ∙ ap (map unused) begins.entries_are
       by_directory r (inr none) = absurd none
 
-  pub opened_bitmaps : (e : StoredBitmap) → Contains (stored (old.seen file)) e → Contains shown.bitmaps (restored e) × Contains (stored (new.seen file)) (unused e)
+  pub opened_bitmaps : (e : StoredBitmap) → Contains (stored_in (old.seen file)) e → Contains shown.bitmaps (restored e) × Contains (stored_in (new.seen file)) (unused e)
   opened_bitmaps e there = (
-    subst (λ (bs : List BitmapState). Contains bs (restored e)) (sym bitmaps_are) (contains_map restored (stored (old.seen file)) e there),
-    subst (λ (es : List StoredBitmap). Contains es (unused e)) (sym still_stored) (contains_map unused (stored (old.seen file)) e there),
+    subst (λ (bs : List BitmapState). Contains bs (restored e)) (sym bitmaps_are) (contains_map restored (stored_in (old.seen file)) e there),
+    subst (λ (es : List StoredBitmap). Contains es (unused e)) (sym still_stored) (contains_map unused (stored_in (old.seen file)) e there),
   )
 
-  pub opened_room : stored (old.seen file) ≡ [] → HasRoom (old.seen file) shown.room × (shown.freed ≡ 0)
+  pub opened_room : stored_in (old.seen file) ≡ [] → HasRoom (old.seen file) shown.room × (shown.freed ≡ 0)
   opened_room none =
       let bare = begins.entries_are ∙ none in
       let taken = begins.nothing_taken bare in
@@ -95,14 +96,14 @@ unfolding closed leave
 persistent_closed name m = persistent_after name (filter (λ (j : Job). true) m.jobs) m.bitmaps
 
 pub closed_bitmaps : ClosedStoresBitmaps
-closed_bitmaps stored file id s old new answer name closed there =
+closed_bitmaps file id s old new answer name closed there =
     subst (λ (es : List StoredBitmap). IsTrue (list_any (is_entry_of name) es)) (sym closed.stores)
     (sym (sym there ∙ sym (persistent_stored name _ ∙ persistent_closed name s.machine)))
 
-closed_kept : {stored : List ℕ → List StoredBitmap} {file : ℕ} {id : List ℕ} (s : State) {old new : World} {answer : Answer} → Closed stored file id s old new answer → (c : List ℕ) → IsOutcome (versions new file) c → (stored_by s.machine ≡ [] → ⊥) → stored c ≡ [] → ⊥
-closed_kept {stored} {file} {id} s {old} {new} closed c outcome some none = from_safe (closed.rest.each c outcome)
+closed_kept : {file : ℕ} {id : List ℕ} (s : State) {old new : World} {answer : Answer} → Closed file id s old new answer → (c : List ℕ) → IsOutcome (versions new file) c → (stored_by s.machine ≡ [] → ⊥) → stored_in c ≡ [] → ⊥
+closed_kept {file} {id} s {old} {new} closed c outcome some none = from_safe (closed.rest.each c outcome)
   where
-    from_safe : IsSafe stored (when_closed s) id s.machine.history (now s.machine.history ∷ []) c → ⊥
+    from_safe : IsSafe (when_closed s) id s.machine.history (now s.machine.history ∷ []) c → ⊥
     from_safe safe = by_cases safe.ready.allowed
       where
         by_cases : Allows (when_closed s) (directory_of safe.ready.opening) → ⊥
@@ -110,4 +111,4 @@ closed_kept {stored} {file} {id} s {old} {new} closed c outcome some none = from
         by_cases (inr none) = none
 
 pub closed_keeps : ClosedKeepsBitmaps
-closed_keeps stored file id s old new answer c closed outcome some none = closed_kept s closed c outcome some none
+closed_keeps file id s old new answer c closed outcome some none = closed_kept s closed c outcome some none

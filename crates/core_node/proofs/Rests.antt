@@ -43,12 +43,12 @@ allows_found xs d other there (inr (inr is)) = absurd is
 abbrev pub Sub : List Directory → List Directory → Type 0
 Sub xs ys = (d : Directory) → Allows xs d → Allows ys d
 
-module _ {stored : List ℕ → List StoredBitmap} {xs ys : List Directory} (more : Sub xs ys) {id : List ℕ} {h : History} where
-  pub ready_more : {file : List ℕ} → IsReady stored xs id h file → IsReady stored ys id h file
+module _ {xs ys : List Directory} (more : Sub xs ys) {id : List ℕ} {h : History} where
+  pub ready_more : {file : List ℕ} → IsReady xs id h file → IsReady ys id h file
   ready_more r = record { opening = r.opening; finds = r.finds; entries_are = r.entries_are; allowed = more _ r.allowed }
 
-module _ {stored : List ℕ → List StoredBitmap} {xs ys : List Directory} (more : Sub xs ys) {id : List ℕ} {h : History} where
-  pub safe_more : {disks : List (List ℕ)} {file : List ℕ} → IsSafe stored xs id h disks file → IsSafe stored ys id h disks file
+module _ {xs ys : List Directory} (more : Sub xs ys) {id : List ℕ} {h : History} where
+  pub safe_more : {disks : List (List ℕ)} {file : List ℕ} → IsSafe xs id h disks file → IsSafe ys id h disks file
   safe_more s = record { disk = s.disk; like = s.like; kept = s.kept; ready = ready_more more s.ready; trusted = s.trusted }
 
 -- ---- disks that a crash may mix
@@ -82,12 +82,12 @@ one_kind {file} {disk} {id} {bytes} {epoch} source target =
     differ id a b c bytes e = absurd (cc)
 
 -- an image that is ready for the history itself is safe
-pub ready_is_safe : {stored : List ℕ → List StoredBitmap} {allows : List Directory} {id : List ℕ} {h : History} {mixed : List (List ℕ)} {file : List ℕ} → IsHistory h → (n : ℕ) × (length (now h) ≡ n * 512) → Kept mixed (now h)
-    → IsReady stored allows id h file → IsSafe stored allows id h mixed file
-ready_is_safe {stored} {allows} {id} {h} {mixed} {file} history whole kept ready = record {
+pub ready_is_safe : {allows : List Directory} {id : List ℕ} {h : History} {mixed : List (List ℕ)} {file : List ℕ} → IsHistory h → (n : ℕ) × (length (now h) ≡ n * 512) → Kept mixed (now h)
+    → IsReady allows id h file → IsSafe allows id h mixed file
+ready_is_safe {allows} {id} {h} {mixed} {file} history whole kept ready = record {
   disk = now h;
   like = record { long = length-now h history.inside; whole = whole };
   kept = kept;
-  ready = subst (λ (g : History). IsReady stored allows id g file) (sym (nothing_settles h)) ready;
+  ready = subst (λ (g : History). IsReady allows id g file) (sym (nothing_settles h)) ready;
   trusted = λ e here trusted. refl;
 }

@@ -6,6 +6,7 @@ use Rattle.span_algebra.specs.declared.points.Point.{Point}
 use Rattle.span_algebra.specs.declared.spans.Base.{Base}
 use Rattle.bitmap_model.specs.Bitmap.{StoredBitmap}
 use Rattle.qc_layout.specs.Room.{HasRoom}
+use Rattle.qc_layout.specs.Directory.{stored_in}
 use Rattle.plain_model.specs.History.{History, IsHistory, now}
 use Rattle.plain_model.specs.Machine.{Machine, Opening, opened}
 use Rattle.plain_model.specs.Closing.{stored_by}
@@ -52,20 +53,20 @@ pub record FindsOpening (file id : List ℕ) (h : History) (o : Opening) : Type 
 
 -- An opening takes the file: it stands for the disk of this history, what it stores of bitmaps is true for it, and its epoch and what it
 -- stores are one of these.
-pub record IsReady (stored : List ℕ → List StoredBitmap) (allows : List Directory) (id : List ℕ) (h : History) (file : List ℕ) : Type 0 where
+pub record IsReady (allows : List Directory) (id : List ℕ) (h : History) (file : List ℕ) : Type 0 where
   pub opening : Opening
   pub finds : FindsOpening file id h opening
-  pub entries_are : opening.entries ≡ stored file
+  pub entries_are : opening.entries ≡ stored_in file
   pub allowed : Allows allows (directory_of opening)
 
 -- A crash may leave this of a source: it is ready for the history as the crash settles it, each sector of its disk is that of one of
 -- these disks, and if a bitmap in it can be trusted, nothing had to be settled.
-pub record IsSafe (stored : List ℕ → List StoredBitmap) (allows : List Directory) (id : List ℕ) (h : History) (disks : List (List ℕ)) (file : List ℕ) : Type 0 where
+pub record IsSafe (allows : List Directory) (id : List ℕ) (h : History) (disks : List (List ℕ)) (file : List ℕ) : Type 0 where
   pub disk : List ℕ
   pub like : IsLikeDisk h disk
   pub kept : Kept disks disk
-  pub ready : IsReady stored allows id (settle h disk) file
-  pub trusted : (e : StoredBitmap) → Contains (stored file) e → IsTrue e.trusted → disk ≡ now h
+  pub ready : IsReady allows id (settle h disk) file
+  pub trusted : (e : StoredBitmap) → Contains (stored_in file) e → IsTrue e.trusted → disk ≡ now h
 
 -- ---- a session's state
 
@@ -109,20 +110,20 @@ pub record Mixes (h : History) (disks : List (List ℕ)) : Type 0 where
   pub alike : All (IsLikeDisk h) disks
 
 -- Files at rest are lawful for a history: as reads give them, and as each crash now may leave them.
-pub record AreLawful (stored : List ℕ → List StoredBitmap) (allows : List Directory) (files : Files) (h : History) (disks : List (List ℕ)) (w : World) : Type 0 where
+pub record AreLawful (allows : List Directory) (files : Files) (h : History) (disks : List (List ℕ)) (w : World) : Type 0 where
   pub history_is : IsHistory h
   pub mixes : Mixes h disks
-  pub source : Holds files.source (IsReady stored allows files.id h) (IsSafe stored allows files.id h disks) w
+  pub source : Holds files.source (IsReady allows files.id h) (IsSafe allows files.id h disks) w
   pub apart : (f : ℕ) → Contains files.backups f → f ≡ files.source → ⊥
   pub backups : (f : ℕ) → Contains files.backups f → Holds f (IsLawfulTarget files.id h) (IsLawfulTarget files.id h) w
 
 -- What a crash left of them is lawful for a history, each file by itself: of the source as it settles it.
-pub record LeftLawful (stored : List ℕ → List StoredBitmap) (allows : List Directory) (files : Files) (h : History) (disks : List (List ℕ)) (left : ℕ → Option (List ℕ)) : Type 0 where
-  pub source : (c : List ℕ) → left files.source ≡ Some c → IsSafe stored allows files.id h disks c
+pub record LeftLawful (allows : List Directory) (files : Files) (h : History) (disks : List (List ℕ)) (left : ℕ → Option (List ℕ)) : Type 0 where
+  pub source : (c : List ℕ) → left files.source ≡ Some c → IsSafe allows files.id h disks c
   pub backups : (f : ℕ) (c : List ℕ) → Contains files.backups f → left f ≡ Some c → IsLawfulTarget files.id h c
 
-abbrev pub LeftIn : (List ℕ → List StoredBitmap) → Files → State → (ℕ → Option (List ℕ)) → Type 0
-LeftIn stored files s left = LeftLawful stored (in_session s) files s.machine.history s.disks left
+abbrev pub LeftIn : Files → State → (ℕ → Option (List ℕ)) → Type 0
+LeftIn files s left = LeftLawful (in_session s) files s.machine.history s.disks left
 
 -- What is sealed stays so, as reads give it and in each crash.
 abbrev pub StaysSealed : World → World → Type 0

@@ -124,7 +124,7 @@ HasRecordAt at file = (h : Header) × (bytes : List ℕ) × IsHeaderOf parts.Tar
 
 -- One event. `keeps` is what the core knew of the files before it, for a state, and `keeping` what it knows after it. What went wrong, what the
 -- depot held and the space of the source's file are the same for all these states.
-pub record Goes (stored : List ℕ → List StoredBitmap) (held : List ℕ → Held) (rise : Rise) (t : Trouble) (store : Store) (freed : ℕ) (before : Shown)
+pub record Goes (held : List ℕ → Held) (rise : Rise) (t : Trouble) (store : Store) (freed : ℕ) (before : Shown)
     (keeps keeping : State → Type 0) (old new : World) (event : Event) (answer : Answer) : Type 0 where
   pub contents : (s : State) → keeps s → StepContents held t s.machine event answer (next_of held t event answer store freed s).machine
   pub space : (s : State) → keeps s → StepSpace t s.machine event (next_of held t event answer store freed s).machine
@@ -134,8 +134,8 @@ pub record Goes (stored : List ℕ → List StoredBitmap) (held : List ℕ → H
   -- each crash within the event leaves the source safe for the state before it, or, where the event may land, for the one after it
   pub crashes : (s : State) → keeps s → (let d = during s event (now (next_of held t event answer store freed s).machine.history) in
       let n = next_of held t event answer store freed s in
-      EachSince new old.now before.file (λ c. IsSafe stored (session_directory d ∷ []) before.id d.machine.history d.disks c
-      ⊎ (IsTrue (may_land event) × IsSafe stored (session_directory n ∷ []) before.id n.machine.history n.disks c)))
+      EachSince new old.now before.file (λ c. IsSafe (session_directory d ∷ []) before.id d.machine.history d.disks c
+      ⊎ (IsTrue (may_land event) × IsSafe (session_directory n ∷ []) before.id n.machine.history n.disks c)))
   -- and each backup file lawful, if it was, for both; after the event it is so for the history after it
   pub lawful : (s : State) (f : ℕ) → keeps s
       → Leads f (IsLawfulTarget before.id s.machine.history) (IsLawfulTarget before.id s.machine.history)
@@ -156,7 +156,7 @@ pub record Goes (stored : List ℕ → List StoredBitmap) (held : List ℕ → H
       → Leads f (λ c. IsBackupOf c b) (λ c. IsBackupOf c b) (λ c. IsBackupOf c b) (λ c. IsBackupOf c b) (λ c. IsBackupOf c b) old new
 
 -- One event, where files are told.
-pub record NodeSteps (stored : List ℕ → List StoredBitmap) (reading : Reading) (before : Shown) (keeps keeping : State → Type 0) (old new : World) (event : Event) (answer : Answer) : Type 0 where
+pub record NodeSteps (reading : Reading) (before : Shown) (keeps keeping : State → Type 0) (old new : World) (event : Event) (answer : Answer) : Type 0 where
   pub held : List ℕ → Held
   pub held_are : AreHeld reading old event held
   pub rise : Rise
@@ -164,7 +164,7 @@ pub record NodeSteps (stored : List ℕ → List StoredBitmap) (reading : Readin
   pub store : Store
   pub freed : ℕ
   pub rises : IsRise old new rise
-  pub goes : Goes stored held rise trouble store freed before keeps keeping old new event answer
+  pub goes : Goes held rise trouble store freed before keeps keeping old new event answer
 
 -- ---- denials
 

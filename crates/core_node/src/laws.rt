@@ -16,32 +16,32 @@ pub fn dropped_is_not_safe()
 
 /// An opening that shows another id isn't one.
 pub fn opened_shows_id<N: Node>()
-    ensures { OpenedShowsId N.stored N.shown N.keeps }
+    ensures { OpenedShowsId N.shown N.keeps }
 {}
 
 /// An opening that drops a stored bitmap isn't one.
 pub fn opened_has_bitmaps<N: Node>()
-    ensures { OpenedHasBitmaps N.stored N.shown N.keeps }
+    ensures { OpenedHasBitmaps N.shown N.keeps }
 {}
 
 /// An opening that takes room where no bitmap is stored isn't one.
 pub fn opened_has_room<N: Node>()
-    ensures { OpenedHasRoom N.stored N.shown N.keeps }
+    ensures { OpenedHasRoom N.shown N.keeps }
 {}
 
 /// An opening after which nothing is known isn't one.
 pub fn opened_knows<N: Node>()
-    ensures { OpenedKnows N.stored N.shown N.keeps }
+    ensures { OpenedKnows N.shown N.keeps }
 {}
 
 /// An event after which nothing is known isn't one.
 pub fn steps_know<N: Node>()
-    ensures { StepsKnow N.stored N.reading N.shown N.keeps }
+    ensures { StepsKnow N.reading N.shown N.keeps }
 {}
 
 /// An event after which a target's record says a false thing isn't one.
 pub fn seals_are_true<N: Node>()
-    ensures { SealsAreTrue N.stored N.reading N.shown N.keeps }
+    ensures { SealsAreTrue N.reading N.shown N.keeps }
 {}
 
 /// A closing that leaves a persistent bitmap out isn't one.

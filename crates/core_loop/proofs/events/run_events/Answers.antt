@@ -12,7 +12,7 @@ loop-alloc-init g c =
     let fresh = c.requires.fresh in
     let few = c.requires.few in
     let none = ap length fresh in (
-      subst (λ (gs : List Given). WentOn g.N.Node.stored g.N.Node.reading g.S.Source.text (g.N.Node.shown c.args.node.now) (g.N.Node.shown c.args.node.now) (g.N.Node.keeps c.args.node.now (g.D.Outside.world c.args.depot.now))
+      subst (λ (gs : List Given). WentOn g.N.Node.reading g.S.Source.text (g.N.Node.shown c.args.node.now) (g.N.Node.shown c.args.node.now) (g.N.Node.keeps c.args.node.now (g.D.Outside.world c.args.depot.now))
           (g.N.Node.keeps c.args.node.now (g.D.Outside.world c.args.depot.now)) gs [] (g.D.Outside.world c.args.depot.now) (g.D.Outside.world c.args.depot.now)) (sym fresh)
           (none_went (λ s keeps. g.met.N.Node.safe c.args.node.now (g.D.Outside.world c.args.depot.now) s keeps) c.requires.files),
       g.met.S.Source.stays c.args.source.now,
@@ -121,7 +121,7 @@ loop-alloc-preserved g c =
     let few = i.3 in
     let fewer = one.fewer in
     let left = c.answered.ensures.left in (
-      subst (λ (gs : List Given). WentOn g.N.Node.stored g.N.Node.reading g.S.Source.text (g.N.Node.shown c.args.node.now) (g.N.Node.shown c.step.new.self) (g.N.Node.keeps c.args.node.now old) (g.N.Node.keeps c.step.new.self new) gs [] old new)
+      subst (λ (gs : List Given). WentOn g.N.Node.reading g.S.Source.text (g.N.Node.shown c.args.node.now) (g.N.Node.shown c.step.new.self) (g.N.Node.keeps c.args.node.now old) (g.N.Node.keeps c.step.new.self new) gs [] old new)
           all went,
       g.met.S.Source.goes_on c.args.source.now c.next.new.self c.answered.new.self (g.met.S.Source.goes_on c.args.source.now c.loop-alloc.source c.next.new.self i.1 c.next.ensures.goes) c.answered.ensures.goes,
       omega arith,
