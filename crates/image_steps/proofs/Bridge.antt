@@ -18,7 +18,7 @@ use Rattle.qc_layout.specs.Disks as disks
 use Rattle.qc_layout.specs.Room.{TablesPass, IsInOrder, IsFreeFrom}
 use Rattle.qc_layout.proofs.Starts.{alike_fields, header_from_start}
 use Rattle.image_model.specs.Clusters.{Shape, size, per, each, place, offset, Who, Head, Counts, Block, Tables, Table, Guest, Bitmaps, IsTable, Refers, IsCounted, AllCounted, IsOffset, IsPlace, Forms, IsShape, SameIn, IsSafe}
-use Rattle.image_model.specs.Calls.{IsOpened}
+use Rattle.image_model.specs.Calls.{IsOpened, AreExactly, AreSettled}
 use Rattle.image_steps.proofs.Places.{place_zero, place_some, place_step}
 use Rattle.image_steps.proofs.Standing.{same_index}
 use Rattle.image_steps.proofs.Words.{IsPlain1, IsPlain2, offset_same, l1_plain, l1_at, l1_some, l1_says, l2_plain, l2_order, l2_host, l2_back, place_is, words_are, counts_are, whole, parts, table_plain, plain_table, guest_plain, plain_guest}
@@ -65,6 +65,27 @@ embed (disks.Block i) = Block i
 embed disks.Tables = Tables
 embed (disks.Table i) = Table i
 embed (disks.Guest i j) = Guest i j
+
+-- from there back
+abbrev unembed : Who → disks.Who
+unembed Head = disks.Head
+unembed Counts = disks.Counts
+unembed (Block i) = disks.Block i
+unembed Tables = disks.Tables
+unembed (Table i) = disks.Table i
+unembed (Guest i j) = disks.Guest i j
+unembed (Bitmaps held) = disks.Head
+
+unembed-embed : (a : disks.Who) → unembed (embed a) ≡ a
+unembed-embed disks.Head = refl
+unembed-embed disks.Counts = refl
+unembed-embed (disks.Block i) = refl
+unembed-embed disks.Tables = refl
+unembed-embed (disks.Table i) = refl
+unembed-embed (disks.Guest i j) = refl
+
+embed_one : (a b : disks.Who) → embed a ≡ embed b → a ≡ b
+embed_one a b same = sym (unembed-embed a) ∙ ap unembed same ∙ unembed-embed b
 
 module _ (s : Shape) (file : List ℕ) (is : IsHeaded s file) where
   abbrev bits : ℕ
@@ -249,44 +270,6 @@ module _ (s : Shape) (shape : IsShape s) (file : List ℕ) (long : 104 ≤ lengt
         below = λ a k x. omega (arith, all.below (embed a) k (to_mine s file is forms a k x), is.reach);
         counted = λ a k x. let c = all.counted (embed a) k (to_mine s file is forms a k x) in omega (arith, count_found s file is k c.0 c.2, c.1);
       }
-    where
-      embed_one : (a b : disks.Who) → embed a ≡ embed b → a ≡ b
-      embed_one disks.Head disks.Head e = refl
-      embed_one disks.Head disks.Counts e = absurd cc
-      embed_one disks.Head (disks.Block i) e = absurd cc
-      embed_one disks.Head disks.Tables e = absurd cc
-      embed_one disks.Head (disks.Table i) e = absurd cc
-      embed_one disks.Head (disks.Guest i j) e = absurd cc
-      embed_one disks.Counts disks.Head e = absurd cc
-      embed_one disks.Counts disks.Counts e = refl
-      embed_one disks.Counts (disks.Block i) e = absurd cc
-      embed_one disks.Counts disks.Tables e = absurd cc
-      embed_one disks.Counts (disks.Table i) e = absurd cc
-      embed_one disks.Counts (disks.Guest i j) e = absurd cc
-      embed_one (disks.Block i) disks.Head e = absurd cc
-      embed_one (disks.Block i) disks.Counts e = absurd cc
-      embed_one (disks.Block i) (disks.Block n) e = cc
-      embed_one (disks.Block i) disks.Tables e = absurd cc
-      embed_one (disks.Block i) (disks.Table n) e = absurd cc
-      embed_one (disks.Block i) (disks.Guest n m) e = absurd cc
-      embed_one disks.Tables disks.Head e = absurd cc
-      embed_one disks.Tables disks.Counts e = absurd cc
-      embed_one disks.Tables (disks.Block i) e = absurd cc
-      embed_one disks.Tables disks.Tables e = refl
-      embed_one disks.Tables (disks.Table i) e = absurd cc
-      embed_one disks.Tables (disks.Guest i j) e = absurd cc
-      embed_one (disks.Table i) disks.Head e = absurd cc
-      embed_one (disks.Table i) disks.Counts e = absurd cc
-      embed_one (disks.Table i) (disks.Block n) e = absurd cc
-      embed_one (disks.Table i) disks.Tables e = absurd cc
-      embed_one (disks.Table i) (disks.Table n) e = cc
-      embed_one (disks.Table i) (disks.Guest n m) e = absurd cc
-      embed_one (disks.Guest i j) disks.Head e = absurd cc
-      embed_one (disks.Guest i j) disks.Counts e = absurd cc
-      embed_one (disks.Guest i j) (disks.Block n) e = absurd cc
-      embed_one (disks.Guest i j) disks.Tables e = absurd cc
-      embed_one (disks.Guest i j) (disks.Table n) e = absurd cc
-      embed_one (disks.Guest i j) (disks.Guest n m) e = cc
 
   pub tables_pass : Forms s file → TablesPass file
   tables_pass forms =
@@ -363,3 +346,29 @@ found_opened s next shape none pass low end =
 -- where nothing is counted nothing is referred to
 pub free_below : (file : List ℕ) (next : ℕ) → TablesPass file → IsFreeFrom file next → (a : disks.Who) (k : ℕ) → disks.Refers file a k → k < next
 free_below file next pass free a k refers = elim (cases_lt k next) [ inl low ↦ low | inr from ↦ absurd (omega (arith, free.uncounted k from, pass.counted.counted a k refers)) ]
+
+-- ---- a file that rests, all counts of which are settled, is tight
+
+pub settled_tight : (s : Shape) (list : List (List ℕ)) (taken : ℕ → Bool) (file : List ℕ) → IsShape s → ((k : ℕ) → s.owner k ≡ None) → 104 ≤ length s.base → IsSafe s list file → AreExactly s taken file → AreSettled s taken file → disks.Tight file
+settled_tight s list taken file shape no_bitmaps long safe exactly settled = record {
+  counted = (safe_passes s list file shape long safe).counted;
+  ones = λ a k refers.
+      let mine = to_mine s file is safe.forms a k refers in
+      let c = safe.counted.counted (embed a) k mine in
+      count_found s file is k c.0 c.2 ∙ settled k c.0 c.2 ∙ ap (λ (b : Bool). if b then 1 else 0) (exactly.named (embed a) k mine);
+  others = λ k none. elim (cases_lt 0 (refcount file k)) [
+    | inr not ↦ omega (arith, not)
+    | inl more ↦ by_taken k none (taken k) refl (settled k (refcount file k) (count_of s file is safe.forms.blocks k more))
+  ];
+}
+  where
+    is : IsHeaded s file
+    is = headed s file shape (same_fields s shape file long safe.counted (safe.fixed 0 (inl refl)))
+
+    by_taken : (k : ℕ) → ((a : disks.Who) → disks.Refers file a k → ⊥) → (b : Bool) → taken k ≡ b → refcount file k ≡ (if taken k then 1 else 0) → refcount file k ≡ 0
+    by_taken k none false same count = count ∙ ap (λ (t : Bool). if t then 1 else 0) same
+    by_taken k none true same count =
+        let who = exactly.exact k same in
+        let back = back_of s file is (λ i inside. table_plain s is.some (bits_of file) is.cluster (u64_at file (s.l1 + 8 * i)) (safe.forms.tables i inside))
+        (λ i q j linked j_in. guest_plain s is.some (bits_of file) is.cluster (u64_at file (place s q + 8 * j)) (safe.forms.entries i q j linked j_in)) no_bitmaps who.0 k who.1 in
+        absurd (none back.0 back.1)
