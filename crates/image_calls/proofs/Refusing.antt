@@ -1,5 +1,5 @@
 -- A new file was synced once more, or that sync failed.
-use Rattle.std.proofs.Common.{◌≡◌, inr, ℕ, List, Option, Some, None, IsSome, IsTrue, Result, Ok, Err}
+use Rattle.std.proofs.Common.{◌≡◌, inr, ℕ, List, Option, Some, None, IsSome, Ok, Err}
 use Rattle.disk_model.specs.World.{World}
 use Rattle.disk_model.proofs.Laws.{rose_after}
 use Rattle.file_device.specs.Calls.{Synced}

@@ -20,10 +20,13 @@ pub fn top_up<D: Depot>(
     requires end { finish + 1 ≤ 2 ^ 62 }
     requires counts_end { spot + length counts.now ≤ 2 ^ 62 }
 
-    ensures moves { (s : Shape) (disks : List (List ℕ)) (first last q i low n : ℕ) → IsToppingUp s last q i low n spot finish file.0 counts.now (D.world depot.old) →
-        Moves file.0 (IsSafe s disks) (IsStanding s disks first last file.0) (IsStanding s disks first (last_after result last n) file.0) (D.world depot.old) (D.world depot.new) }
+    ensures moves { (s : Shape) (disks : List (List ℕ)) (first last q i low n : ℕ) →
+        IsToppingUp s last q i low n spot finish file.0 counts.now (D.world depot.old) →
+        Moves file.0 (IsSafe s disks) (IsStanding s disks first last file.0) (IsStanding s disks first (last_after result last n) file.0)
+        (D.world depot.old) (D.world depot.new) }
 
-    ensures leaves { (s : Shape) (disks : List (List ℕ)) (first last q i low n : ℕ) → IsToppingUp s last q i low n spot finish file.0 counts.now (D.world depot.old) →
+    ensures leaves { (s : Shape) (disks : List (List ℕ)) (first last q i low n : ℕ) →
+        IsToppingUp s last q i low n spot finish file.0 counts.now (D.world depot.old) →
         Reads file.0 (IsStanding s disks first last file.0) (LeavesGuest s) (D.world depot.old) (D.world depot.new) }
 
     ensures puts { Puts file.0 (D.world depot.old) (D.world depot.new) result }
@@ -49,13 +52,17 @@ pub fn add_block<D: Depot>(
     requires count_end { spot + 2 ≤ 2 ^ 62 }
     requires word_end { at + 8 ≤ 2 ^ 62 }
 
-    ensures moves { (s : Shape) (disks : List (List ℕ)) (first last i slot : ℕ) → IsAddingBlock s i last slot spot finish end at word file.0 (D.world depot.old) →
-        Moves file.0 (IsSafe s disks) (IsStanding s disks first last file.0) (IsStanding s disks first (last_after result last 1) file.0) (D.world depot.old) (D.world depot.new) }
+    ensures moves { (s : Shape) (disks : List (List ℕ)) (first last i slot : ℕ) →
+        IsAddingBlock s i last slot spot finish end at word file.0 (D.world depot.old) →
+        Moves file.0 (IsSafe s disks) (IsStanding s disks first last file.0) (IsStanding s disks first (last_after result last 1) file.0)
+        (D.world depot.old) (D.world depot.new) }
 
-    ensures leaves { (s : Shape) (disks : List (List ℕ)) (first last i slot : ℕ) → IsAddingBlock s i last slot spot finish end at word file.0 (D.world depot.old) →
+    ensures leaves { (s : Shape) (disks : List (List ℕ)) (first last i slot : ℕ) →
+        IsAddingBlock s i last slot spot finish end at word file.0 (D.world depot.old) →
         Reads file.0 (IsStanding s disks first last file.0) (LeavesGuest s) (D.world depot.old) (D.world depot.new) }
 
-    ensures linked { OnOk result ((s : Shape) (disks : List (List ℕ)) (first last i slot : ℕ) → IsAddingBlock s i last slot spot finish end at word file.0 (D.world depot.old) →
+    ensures linked { OnOk result ((s : Shape) (disks : List (List ℕ)) (first last i slot : ℕ) →
+        IsAddingBlock s i last slot spot finish end at word file.0 (D.world depot.old) →
         Reads file.0 (IsStanding s disks first last file.0) (λ old new. IsBlock s new i last) (D.world depot.old) (D.world depot.new)) }
 
     ensures puts { Puts file.0 (D.world depot.old) (D.world depot.new) result }
@@ -71,13 +78,17 @@ pub fn rest<D: Depot>(depot: &mut D, file: FileNo) -> Result<(), Failed>
     requires given { file.0 < (D.world depot.old).given }
 
     ensures stays { (s : Shape) (disks : List (List ℕ)) (first last : ℕ) →
-        Moves file.0 (IsSafe s disks) (IsStanding s disks first last file.0) (IsStanding s disks first last file.0) (D.world depot.old) (D.world depot.new) }
+        Moves file.0 (IsSafe s disks) (IsStanding s disks first last file.0) (IsStanding s disks first last file.0) (D.world depot.old)
+        (D.world depot.new) }
 
     ensures one { OnOk result ((s : Shape) (disks : List (List ℕ)) (first last : ℕ) →
-        Moves file.0 (IsSafe s disks) (IsStanding s disks first last file.0) (IsStanding s ((D.world depot.new).seen file.0 ∷ []) first last file.0) (D.world depot.old) (D.world depot.new)) }
+        Moves file.0 (IsSafe s disks) (IsStanding s disks first last file.0) (IsStanding s ((D.world depot.new).seen file.0 ∷ []) first last file.0)
+        (D.world depot.old) (D.world depot.new)) }
 
-    ensures rests { OnOk result ((s : Shape) (disks : List (List ℕ)) (taken : ℕ → Bool) (first last : ℕ) → Told (AreExactly s taken) file.0 (D.world depot.old) →
-        Moves file.0 (IsSafe s disks) (IsStanding s disks first last file.0) (Rests s ((D.world depot.new).seen file.0 ∷ []) taken last file.0) (D.world depot.old) (D.world depot.new)) }
+    ensures rests { OnOk result ((s : Shape) (disks : List (List ℕ)) (taken : ℕ → Bool) (first last : ℕ) →
+        Told (AreExactly s taken) file.0 (D.world depot.old) →
+        Moves file.0 (IsSafe s disks) (IsStanding s disks first last file.0) (Rests s ((D.world depot.new).seen file.0 ∷ []) taken last file.0)
+        (D.world depot.old) (D.world depot.new)) }
 
     ensures synced { Synced file.0 (D.world depot.old) (D.world depot.new) result }
 {
@@ -94,17 +105,22 @@ pub fn settle_counts<D: Depot>(
     requires given { file.0 < (D.world depot.old).given }
     requires counts_end { spot + length counts.now ≤ 2 ^ 62 }
 
-    ensures moves { (s : Shape) (disks : List (List ℕ)) (taken : ℕ → Bool) (last q i low n : ℕ) → IsShape s → IsSettling s taken q i low n spot counts.now → Told (λ c. IsBlock s c i q) file.0 (D.world depot.old) →
+    ensures moves { (s : Shape) (disks : List (List ℕ)) (taken : ℕ → Bool) (last q i low n : ℕ) → IsShape s →
+        IsSettling s taken q i low n spot counts.now → Told (λ c. IsBlock s c i q) file.0 (D.world depot.old) →
         Moves file.0 (IsSafe s disks) (Rests s disks taken last file.0) (Rests s disks taken last file.0) (D.world depot.old) (D.world depot.new) }
 
     // Whatever it answers, nothing of the guest's changes, and no other count.
-    ensures leaves { (s : Shape) (disks : List (List ℕ)) (taken : ℕ → Bool) (last q i low n : ℕ) → IsShape s → IsSettling s taken q i low n spot counts.now → Told (λ c. IsBlock s c i q) file.0 (D.world depot.old) →
+    ensures leaves { (s : Shape) (disks : List (List ℕ)) (taken : ℕ → Bool) (last q i low n : ℕ) → IsShape s →
+        IsSettling s taken q i low n spot counts.now → Told (λ c. IsBlock s c i q) file.0 (D.world depot.old) →
         Reads file.0 (Rests s disks taken last file.0) (LeavesGuest s) (D.world depot.old) (D.world depot.new) }
-    ensures others { (s : Shape) (disks : List (List ℕ)) (taken : ℕ → Bool) (last q i low n : ℕ) → IsShape s → IsSettling s taken q i low n spot counts.now → Told (λ c. IsBlock s c i q) file.0 (D.world depot.old) →
+    ensures others { (s : Shape) (disks : List (List ℕ)) (taken : ℕ → Bool) (last q i low n : ℕ) → IsShape s →
+        IsSettling s taken q i low n spot counts.now → Told (λ c. IsBlock s c i q) file.0 (D.world depot.old) →
         Reads file.0 (Rests s disks taken last file.0) (LeavesCounts s (each s * i + low) n) (D.world depot.old) (D.world depot.new) }
 
-    ensures counts { OnOk result ((s : Shape) (disks : List (List ℕ)) (taken : ℕ → Bool) (last q i low n : ℕ) → IsShape s → IsSettling s taken q i low n spot counts.now → Told (λ c. IsBlock s c i q) file.0 (D.world depot.old) →
-        Reads file.0 (Rests s disks taken last file.0) (λ old new. HasCounts s (each s * i + low) n counts.now new) (D.world depot.old) (D.world depot.new)) }
+    ensures counts { OnOk result ((s : Shape) (disks : List (List ℕ)) (taken : ℕ → Bool) (last q i low n : ℕ) → IsShape s →
+        IsSettling s taken q i low n spot counts.now → Told (λ c. IsBlock s c i q) file.0 (D.world depot.old) →
+        Reads file.0 (Rests s disks taken last file.0) (λ old new. HasCounts s (each s * i + low) n counts.now new) (D.world depot.old)
+        (D.world depot.new)) }
 
     ensures puts { Puts file.0 (D.world depot.old) (D.world depot.new) result }
 {

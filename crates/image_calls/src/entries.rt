@@ -13,19 +13,26 @@ pub fn clear_entry<D: Depot>(depot: &mut D, file: FileNo, slot: u64) -> Result<(
     requires given { file.0 < (D.world depot.old).given }
     requires end { slot + 8 ≤ 2 ^ 62 }
 
-    ensures moves { (s : Shape) (disks : List (List ℕ)) (first last q i j : ℕ) → IsShape s → IsSlot s q i j slot → Told (λ c. IsTable s c i q) file.0 (D.world depot.old) →
-        Moves file.0 (IsSafe s ((D.world depot.new).seen file.0 ∷ disks)) (IsStanding s disks first last file.0) (IsStanding s ((D.world depot.new).seen file.0 ∷ disks) first last file.0) (D.world depot.old) (D.world depot.new) }
+    ensures moves { (s : Shape) (disks : List (List ℕ)) (first last q i j : ℕ) → IsShape s → IsSlot s q i j slot →
+        Told (λ c. IsTable s c i q) file.0 (D.world depot.old) →
+        Moves file.0 (IsSafe s ((D.world depot.new).seen file.0 ∷ disks)) (IsStanding s disks first last file.0)
+        (IsStanding s ((D.world depot.new).seen file.0 ∷ disks) first last file.0) (D.world depot.old) (D.world depot.new) }
 
     // Whatever it answers, nothing else of the guest's changes.
-    ensures leaves { (s : Shape) (disks : List (List ℕ)) (first last q i j : ℕ) → IsShape s → IsSlot s q i j slot → Told (λ c. IsTable s c i q) file.0 (D.world depot.old) →
+    ensures leaves { (s : Shape) (disks : List (List ℕ)) (first last q i j : ℕ) → IsShape s → IsSlot s q i j slot →
+        Told (λ c. IsTable s c i q) file.0 (D.world depot.old) →
         Reads file.0 (IsStanding s disks first last file.0) (LeavesOthers s i j) (D.world depot.old) (D.world depot.new) }
 
-    ensures cleared { OnOk result ((s : Shape) (disks : List (List ℕ)) (first last q i j : ℕ) → IsShape s → IsSlot s q i j slot → Told (λ c. IsTable s c i q) file.0 (D.world depot.old) →
-        Reads file.0 (IsStanding s disks first last file.0) (λ old new. IsTable s new i q × (word_of s new i j ≡ 0)) (D.world depot.old) (D.world depot.new)) }
+    ensures cleared { OnOk result ((s : Shape) (disks : List (List ℕ)) (first last q i j : ℕ) → IsShape s → IsSlot s q i j slot →
+        Told (λ c. IsTable s c i q) file.0 (D.world depot.old) →
+        Reads file.0 (IsStanding s disks first last file.0) (λ old new. IsTable s new i q × (word_of s new i j ≡ 0)) (D.world depot.old)
+        (D.world depot.new)) }
 
     // The entry and its bytes are as they were, or it is zero.
-    ensures whether { (s : Shape) (disks : List (List ℕ)) (first last q i j : ℕ) → IsShape s → IsSlot s q i j slot → Told (λ c. IsTable s c i q) file.0 (D.world depot.old) →
-        Reads file.0 (IsStanding s disks first last file.0) (λ old new. ((word_of s new i j ≡ word_of s old i j) × ((o : ℕ) → o < s.sectors → ShowsAs s i j o new old)) ⊎ (word_of s new i j ≡ 0)) (D.world depot.old) (D.world depot.new) }
+    ensures whether { (s : Shape) (disks : List (List ℕ)) (first last q i j : ℕ) → IsShape s → IsSlot s q i j slot →
+        Told (λ c. IsTable s c i q) file.0 (D.world depot.old) →
+        Reads file.0 (IsStanding s disks first last file.0) (λ old new. ((word_of s new i j ≡ word_of s old i j) × ((o : ℕ) → o < s.sectors →
+        ShowsAs s i j o new old)) ⊎ (word_of s new i j ≡ 0)) (D.world depot.old) (D.world depot.new) }
 
     ensures puts { Puts file.0 (D.world depot.old) (D.world depot.new) result }
 {
@@ -38,21 +45,28 @@ pub fn overwrite<D: Depot>(depot: &mut D, file: FileNo, at: u64, bytes: &[u8]) -
     requires given { file.0 < (D.world depot.old).given }
     requires data_end { at + length bytes.now ≤ 2 ^ 62 }
 
-    ensures moves { (s : Shape) (disks : List (List ℕ)) (first last k i j : ℕ) → IsShape s → i < s.tables → j < per s → IsIn s k at (length bytes.now) → Told (IsData s i j k) file.0 (D.world depot.old) →
-        Moves file.0 (IsSafe s ((D.world depot.new).seen file.0 ∷ disks)) (IsStanding s disks first last file.0) (IsStanding s ((D.world depot.new).seen file.0 ∷ disks) first last file.0) (D.world depot.old) (D.world depot.new) }
+    ensures moves { (s : Shape) (disks : List (List ℕ)) (first last k i j : ℕ) → IsShape s → i < s.tables → j < per s →
+        IsIn s k at (length bytes.now) → Told (IsData s i j k) file.0 (D.world depot.old) →
+        Moves file.0 (IsSafe s ((D.world depot.new).seen file.0 ∷ disks)) (IsStanding s disks first last file.0)
+        (IsStanding s ((D.world depot.new).seen file.0 ∷ disks) first last file.0) (D.world depot.old) (D.world depot.new) }
 
     // Whatever it answers, nothing else of the guest's changes.
-    ensures leaves { (s : Shape) (disks : List (List ℕ)) (first last k i j : ℕ) → IsShape s → i < s.tables → j < per s → IsIn s k at (length bytes.now) → Told (IsData s i j k) file.0 (D.world depot.old) →
+    ensures leaves { (s : Shape) (disks : List (List ℕ)) (first last k i j : ℕ) → IsShape s → i < s.tables → j < per s →
+        IsIn s k at (length bytes.now) → Told (IsData s i j k) file.0 (D.world depot.old) →
         Reads file.0 (IsStanding s disks first last file.0) (LeavesOthers s i j) (D.world depot.old) (D.world depot.new) }
 
-    ensures shows { OnOk result ((s : Shape) (disks : List (List ℕ)) (first last k i j : ℕ) → IsShape s → i < s.tables → j < per s → IsIn s k at (length bytes.now) → Told (IsData s i j k) file.0 (D.world depot.old) →
-        Reads file.0 (IsStanding s disks first last file.0) (λ old new. Shows s i j k at bytes.now (guest s old i j) new) (D.world depot.old) (D.world depot.new)) }
+    ensures shows { OnOk result ((s : Shape) (disks : List (List ℕ)) (first last k i j : ℕ) → IsShape s → i < s.tables → j < per s →
+        IsIn s k at (length bytes.now) → Told (IsData s i j k) file.0 (D.world depot.old) →
+        Reads file.0 (IsStanding s disks first last file.0) (λ old new. Shows s i j k at bytes.now (guest s old i j) new) (D.world depot.old)
+        (D.world depot.new)) }
 
-    ensures entry { (s : Shape) (disks : List (List ℕ)) (first last k i j : ℕ) → IsShape s → i < s.tables → j < per s → IsIn s k at (length bytes.now) → Told (IsData s i j k) file.0 (D.world depot.old) →
+    ensures entry { (s : Shape) (disks : List (List ℕ)) (first last k i j : ℕ) → IsShape s → i < s.tables → j < per s →
+        IsIn s k at (length bytes.now) → Told (IsData s i j k) file.0 (D.world depot.old) →
         Reads file.0 (IsStanding s disks first last file.0) (λ old new. word_of s new i j ≡ word_of s old i j) (D.world depot.old) (D.world depot.new) }
 
     // Each sector is as it was, or as it is to be.
-    ensures partly { (s : Shape) (disks : List (List ℕ)) (first last k i j : ℕ) → IsShape s → i < s.tables → j < per s → IsIn s k at (length bytes.now) → Told (IsData s i j k) file.0 (D.world depot.old) →
+    ensures partly { (s : Shape) (disks : List (List ℕ)) (first last k i j : ℕ) → IsShape s → i < s.tables → j < per s →
+        IsIn s k at (length bytes.now) → Told (IsData s i j k) file.0 (D.world depot.old) →
         Reads file.0 (IsStanding s disks first last file.0) (IsPartly s i j k at bytes.now) (D.world depot.old) (D.world depot.new) }
 
     ensures puts { Puts file.0 (D.world depot.old) (D.world depot.new) result }
@@ -66,12 +80,14 @@ pub fn add_table<D: Depot>(depot: &mut D, file: FileNo, slot: u64, entry: u64) -
     requires end { slot + 8 ≤ 2 ^ 62 }
 
     ensures moves { (s : Shape) (disks : List (List ℕ)) (first last t i : ℕ) → IsTablePut s first last t i slot entry file.0 (D.world depot.old) →
-        Moves file.0 (IsSafe s disks) (IsStanding s disks first last file.0) (IsStanding s disks (t + 1) last file.0) (D.world depot.old) (D.world depot.new) }
+        Moves file.0 (IsSafe s disks) (IsStanding s disks first last file.0) (IsStanding s disks (t + 1) last file.0) (D.world depot.old)
+        (D.world depot.new) }
 
     ensures leaves { (s : Shape) (disks : List (List ℕ)) (first last t i : ℕ) → IsTablePut s first last t i slot entry file.0 (D.world depot.old) →
         Reads file.0 (IsStanding s disks first last file.0) (LeavesGuest s) (D.world depot.old) (D.world depot.new) }
 
-    ensures linked { OnOk result ((s : Shape) (disks : List (List ℕ)) (first last t i : ℕ) → IsTablePut s first last t i slot entry file.0 (D.world depot.old) →
+    ensures linked { OnOk result ((s : Shape) (disks : List (List ℕ)) (first last t i : ℕ) →
+        IsTablePut s first last t i slot entry file.0 (D.world depot.old) →
         Reads file.0 (IsStanding s disks first last file.0) (λ old new. IsNewTable s t i entry new) (D.world depot.old) (D.world depot.new)) }
 
     ensures puts { Puts file.0 (D.world depot.old) (D.world depot.new) result }

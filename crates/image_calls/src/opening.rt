@@ -12,9 +12,11 @@ use file_device::{sync, write};
 pub fn begin<D: Depot>(depot: &mut D, file: FileNo) -> Result<(), Failed>
     requires given { file.0 < (D.world depot.old).given }
 
-    ensures begins { OnOk result ((s : Shape) (next : ℕ) → Told (IsOpened s next) file.0 (D.world depot.old) → Begins s next ((D.world depot.new).seen file.0) file.0 (D.world depot.new)) }
+    ensures begins { OnOk result ((s : Shape) (next : ℕ) → Told (IsOpened s next) file.0 (D.world depot.old) →
+        Begins s next ((D.world depot.new).seen file.0) file.0 (D.world depot.new)) }
 
-    ensures stands { OnOk result ((s : Shape) (next : ℕ) → Told (IsOpened s next) file.0 (D.world depot.old) → Told (AreInside s) file.0 (D.world depot.old) →
+    ensures stands { OnOk result ((s : Shape) (next : ℕ) → Told (IsOpened s next) file.0 (D.world depot.old) →
+        Told (AreInside s) file.0 (D.world depot.old) →
         IsStanding s ((D.world depot.new).seen file.0 ∷ []) next next file.0 (D.world depot.new)) }
 
     // Until it ends a crash leaves what it might have left before, and so where it failed.
@@ -32,7 +34,8 @@ pub fn extend<D: Depot>(depot: &mut D, file: FileNo, finish: u64) -> Result<(), 
         Moves file.0 (IsSafe s (found ∷ [])) (Begins s next found file.0) (Begins s next found file.0) (D.world depot.old) (D.world depot.new) }
 
     ensures stands { OnOk result ((s : Shape) (next : ℕ) (found : List ℕ) → finish + 1 ≡ place s next → length found ≤ finish →
-        Moves file.0 (IsSafe s (found ∷ [])) (Begins s next found file.0) (IsStanding s (found ∷ []) next next file.0) (D.world depot.old) (D.world depot.new)) }
+        Moves file.0 (IsSafe s (found ∷ [])) (Begins s next found file.0) (IsStanding s (found ∷ []) next next file.0) (D.world depot.old)
+        (D.world depot.new)) }
 
     ensures puts { Puts file.0 (D.world depot.old) (D.world depot.new) result }
 {

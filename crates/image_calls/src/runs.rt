@@ -33,14 +33,18 @@ pub fn write_data<D: Depot>(
     requires given { file.0 < (D.world depot.old).given }
     requires end { at + length bytes.now ≤ 2 ^ 62 }
 
-    ensures moves { (s : Shape) (disks : List (List ℕ)) (first last k n : ℕ) → IsFilling s first last k n at (length bytes.now) file.0 (D.world depot.old) →
-        Moves file.0 (IsSafe s disks) (IsStanding s disks first last file.0) (IsHolding s disks k n (k + n) last file.0) (D.world depot.old) (D.world depot.new) }
+    ensures moves { (s : Shape) (disks : List (List ℕ)) (first last k n : ℕ) →
+        IsFilling s first last k n at (length bytes.now) file.0 (D.world depot.old) →
+        Moves file.0 (IsSafe s disks) (IsStanding s disks first last file.0) (IsHolding s disks k n (k + n) last file.0) (D.world depot.old)
+        (D.world depot.new) }
 
     // Whatever it answers, nothing of the guest's changes.
-    ensures leaves { (s : Shape) (disks : List (List ℕ)) (first last k n : ℕ) → IsFilling s first last k n at (length bytes.now) file.0 (D.world depot.old) →
+    ensures leaves { (s : Shape) (disks : List (List ℕ)) (first last k n : ℕ) →
+        IsFilling s first last k n at (length bytes.now) file.0 (D.world depot.old) →
         Reads file.0 (IsStanding s disks first last file.0) (LeavesGuest s) (D.world depot.old) (D.world depot.new) }
 
-    ensures there { OnOk result ((s : Shape) (disks : List (List ℕ)) (first last k n : ℕ) → IsFilling s first last k n at (length bytes.now) file.0 (D.world depot.old) →
+    ensures there { OnOk result ((s : Shape) (disks : List (List ℕ)) (first last k n : ℕ) →
+        IsFilling s first last k n at (length bytes.now) file.0 (D.world depot.old) →
         Reads file.0 (IsStanding s disks first last file.0) (λ old new. HasData s k n at bytes.now new) (D.world depot.old) (D.world depot.new)) }
 
     ensures puts { Puts file.0 (D.world depot.old) (D.world depot.new) result }
@@ -53,19 +57,26 @@ pub fn link<D: Depot>(depot: &mut D, file: FileNo, spot: u64, entries: &[u8]) ->
     requires given { file.0 < (D.world depot.old).given }
     requires end { spot + length entries.now ≤ 2 ^ 62 }
 
-    ensures moves { (s : Shape) (disks : List (List ℕ)) (first last k n q i j : ℕ) → IsLinking s first k n q i j spot file.0 entries.now (D.world depot.old) →
-        Moves file.0 (IsSafe s ((D.world depot.new).seen file.0 ∷ disks)) (IsHolding s disks k n first last file.0) (IsStanding s ((D.world depot.new).seen file.0 ∷ disks) first last file.0) (D.world depot.old) (D.world depot.new) }
+    ensures moves { (s : Shape) (disks : List (List ℕ)) (first last k n q i j : ℕ) →
+        IsLinking s first k n q i j spot file.0 entries.now (D.world depot.old) →
+        Moves file.0 (IsSafe s ((D.world depot.new).seen file.0 ∷ disks)) (IsHolding s disks k n first last file.0)
+        (IsStanding s ((D.world depot.new).seen file.0 ∷ disks) first last file.0) (D.world depot.old) (D.world depot.new) }
 
     // Whatever it answers, nothing else of the guest's changes.
-    ensures leaves { (s : Shape) (disks : List (List ℕ)) (first last k n q i j : ℕ) → IsLinking s first k n q i j spot file.0 entries.now (D.world depot.old) →
+    ensures leaves { (s : Shape) (disks : List (List ℕ)) (first last k n q i j : ℕ) →
+        IsLinking s first k n q i j spot file.0 entries.now (D.world depot.old) →
         Reads file.0 (IsHolding s disks k n first last file.0) (LeavesRest s i j n) (D.world depot.old) (D.world depot.new) }
 
     // The entries of each sector are as they were, or all of them name their clusters.
-    ensures either { (s : Shape) (disks : List (List ℕ)) (first last k n q i j : ℕ) → IsLinking s first k n q i j spot file.0 entries.now (D.world depot.old) →
-        Reads file.0 (IsHolding s disks k n first last file.0) (λ old new. (x : ℕ) → AreAsBefore s q i j n x old new ⊎ AreLinked s k q i j n x entries.now old new) (D.world depot.old) (D.world depot.new) }
+    ensures either { (s : Shape) (disks : List (List ℕ)) (first last k n q i j : ℕ) →
+        IsLinking s first k n q i j spot file.0 entries.now (D.world depot.old) →
+        Reads file.0 (IsHolding s disks k n first last file.0) (λ old new. (x : ℕ) →
+        AreAsBefore s q i j n x old new ⊎ AreLinked s k q i j n x entries.now old new) (D.world depot.old) (D.world depot.new) }
 
-    ensures linked { OnOk result ((s : Shape) (disks : List (List ℕ)) (first last k n q i j : ℕ) → IsLinking s first k n q i j spot file.0 entries.now (D.world depot.old) →
-        Reads file.0 (IsHolding s disks k n first last file.0) (λ old new. (m : ℕ) → m < n → IsLinked s i (j + m) (k + m) (u64_at entries.now (8 * m)) old new) (D.world depot.old) (D.world depot.new)) }
+    ensures linked { OnOk result ((s : Shape) (disks : List (List ℕ)) (first last k n q i j : ℕ) →
+        IsLinking s first k n q i j spot file.0 entries.now (D.world depot.old) →
+        Reads file.0 (IsHolding s disks k n first last file.0) (λ old new. (m : ℕ) → m < n →
+        IsLinked s i (j + m) (k + m) (u64_at entries.now (8 * m)) old new) (D.world depot.old) (D.world depot.new)) }
 
     ensures puts { Puts file.0 (D.world depot.old) (D.world depot.new) result }
 {
@@ -85,23 +96,36 @@ pub fn write_run<D: Depot>(
     requires data_end { at + length bytes.now ≤ 2 ^ 62 }
     requires end { spot + length entries.now ≤ 2 ^ 62 }
 
-    ensures moves { (s : Shape) (disks : List (List ℕ)) (first last k n q i j : ℕ) → IsFilling s first last k n at (length bytes.now) file.0 (D.world depot.old) → IsLinking s (k + n) k n q i j spot file.0 entries.now (D.world depot.old) →
-        Moves file.0 (IsSafe s ((D.world depot.new).seen file.0 ∷ disks)) (IsStanding s disks first last file.0) (IsStanding s ((D.world depot.new).seen file.0 ∷ disks) (k + n) last file.0) (D.world depot.old) (D.world depot.new) }
+    ensures moves { (s : Shape) (disks : List (List ℕ)) (first last k n q i j : ℕ) →
+        IsFilling s first last k n at (length bytes.now) file.0 (D.world depot.old) →
+        IsLinking s (k + n) k n q i j spot file.0 entries.now (D.world depot.old) →
+        Moves file.0 (IsSafe s ((D.world depot.new).seen file.0 ∷ disks)) (IsStanding s disks first last file.0)
+        (IsStanding s ((D.world depot.new).seen file.0 ∷ disks) (k + n) last file.0) (D.world depot.old) (D.world depot.new) }
 
     // Whatever it answers, nothing else of the guest's changes.
-    ensures leaves { (s : Shape) (disks : List (List ℕ)) (first last k n q i j : ℕ) → IsFilling s first last k n at (length bytes.now) file.0 (D.world depot.old) → IsLinking s (k + n) k n q i j spot file.0 entries.now (D.world depot.old) →
+    ensures leaves { (s : Shape) (disks : List (List ℕ)) (first last k n q i j : ℕ) →
+        IsFilling s first last k n at (length bytes.now) file.0 (D.world depot.old) →
+        IsLinking s (k + n) k n q i j spot file.0 entries.now (D.world depot.old) →
         Reads file.0 (IsStanding s disks first last file.0) (LeavesRest s i j n) (D.world depot.old) (D.world depot.new) }
 
     // Where the data wasn't written, nothing of the guest's changes.
-    ensures alike { result ≡ Err Data → (s : Shape) (disks : List (List ℕ)) (first last k n q i j : ℕ) → IsFilling s first last k n at (length bytes.now) file.0 (D.world depot.old) → IsLinking s (k + n) k n q i j spot file.0 entries.now (D.world depot.old) →
+    ensures alike { result ≡ Err Data → (s : Shape) (disks : List (List ℕ)) (first last k n q i j : ℕ) →
+        IsFilling s first last k n at (length bytes.now) file.0 (D.world depot.old) →
+        IsLinking s (k + n) k n q i j spot file.0 entries.now (D.world depot.old) →
         Reads file.0 (IsStanding s disks first last file.0) (LeavesGuest s) (D.world depot.old) (D.world depot.new) }
 
     // The entries of each sector are as they were, or all of them name their clusters, which show the data.
-    ensures either { (s : Shape) (disks : List (List ℕ)) (first last k n q i j : ℕ) → IsFilling s first last k n at (length bytes.now) file.0 (D.world depot.old) → IsLinking s (k + n) k n q i j spot file.0 entries.now (D.world depot.old) →
-        Reads file.0 (IsStanding s disks first last file.0) (λ old new. (x : ℕ) → AreAsBefore s q i j n x old new ⊎ AreStored s k q i j n x entries.now at bytes.now new) (D.world depot.old) (D.world depot.new) }
+    ensures either { (s : Shape) (disks : List (List ℕ)) (first last k n q i j : ℕ) →
+        IsFilling s first last k n at (length bytes.now) file.0 (D.world depot.old) →
+        IsLinking s (k + n) k n q i j spot file.0 entries.now (D.world depot.old) →
+        Reads file.0 (IsStanding s disks first last file.0) (λ old new. (x : ℕ) →
+        AreAsBefore s q i j n x old new ⊎ AreStored s k q i j n x entries.now at bytes.now new) (D.world depot.old) (D.world depot.new) }
 
-    ensures stored { OnOk result ((s : Shape) (disks : List (List ℕ)) (first last k n q i j : ℕ) → IsFilling s first last k n at (length bytes.now) file.0 (D.world depot.old) → IsLinking s (k + n) k n q i j spot file.0 entries.now (D.world depot.old) →
-        Reads file.0 (IsStanding s disks first last file.0) (λ old new. (m : ℕ) → m < n → IsStored s i (j + m) (k + m) (u64_at entries.now (8 * m)) at bytes.now new) (D.world depot.old) (D.world depot.new)) }
+    ensures stored { OnOk result ((s : Shape) (disks : List (List ℕ)) (first last k n q i j : ℕ) →
+        IsFilling s first last k n at (length bytes.now) file.0 (D.world depot.old) →
+        IsLinking s (k + n) k n q i j spot file.0 entries.now (D.world depot.old) →
+        Reads file.0 (IsStanding s disks first last file.0) (λ old new. (m : ℕ) → m < n →
+        IsStored s i (j + m) (k + m) (u64_at entries.now (8 * m)) at bytes.now new) (D.world depot.old) (D.world depot.new)) }
 
     ensures puts { Puts file.0 (D.world depot.old) (D.world depot.new) result }
 {

@@ -19,10 +19,12 @@ pub fn turn<D: Depot>(depot: &mut D, file: FileNo, sector: &[u8; 512]) -> Result
     requires given { file.0 < (D.world depot.old).given }
 
     ensures moves { (s t : Shape) (disks : List (List ℕ)) (first last : ℕ) →
-        Moves file.0 (IsEither s t disks) (Turning s t disks first last sector.now file.0) (Turning s t disks first last sector.now file.0) (D.world depot.old) (D.world depot.new) }
+        Moves file.0 (IsEither s t disks) (Turning s t disks first last sector.now file.0) (Turning s t disks first last sector.now file.0)
+        (D.world depot.old) (D.world depot.new) }
 
     ensures turned { OnOk result ((s t : Shape) (disks : List (List ℕ)) (first last : ℕ) →
-        Moves file.0 (IsEither s t disks) (Turning s t disks first last sector.now file.0) (IsStanding t ((D.world depot.new).seen file.0 ∷ []) first last file.0) (D.world depot.old) (D.world depot.new)) }
+        Moves file.0 (IsEither s t disks) (Turning s t disks first last sector.now file.0)
+        (IsStanding t ((D.world depot.new).seen file.0 ∷ []) first last file.0) (D.world depot.old) (D.world depot.new)) }
 
     // By what reads gave alone: of each crash since the first sync that succeeded.
     ensures crash { (s t : Shape) (disks : List (List ℕ)) (first last : ℕ) → Told (Turns s t disks first last sector.now) file.0 (D.world depot.old) →
@@ -32,7 +34,8 @@ pub fn turn<D: Depot>(depot: &mut D, file: FileNo, sector: &[u8; 512]) -> Result
     ensures again { (s t : Shape) (disks : List (List ℕ)) (first last : ℕ) → Told (Turns s t disks first last sector.now) file.0 (D.world depot.old) →
         Told (Turns s t disks first last sector.now) file.0 (D.world depot.new) }
 
-    ensures done { OnOk result ((s t : Shape) (disks : List (List ℕ)) (first last : ℕ) → Told (Turns s t disks first last sector.now) file.0 (D.world depot.old) →
+    ensures done { OnOk result ((s t : Shape) (disks : List (List ℕ)) (first last : ℕ) →
+        Told (Turns s t disks first last sector.now) file.0 (D.world depot.old) →
         IsStanding t ((D.world depot.new).seen file.0 ∷ []) first last file.0 (D.world depot.new) × (IsTrue (D.world depot.old).tells → IsShape t)) }
 
     // Reads give the old sector or the new one; at Ok the new one.
@@ -50,9 +53,11 @@ pub fn after_turn<D: Depot>(depot: &mut D, file: FileNo) -> Result<(), Failed>
     requires given { file.0 < (D.world depot.old).given }
 
     ensures stays { (s t : Shape) (disks : List (List ℕ)) (first last : ℕ) (sector : List ℕ) →
-        Moves file.0 (IsEither s t disks) (Turning s t disks first last sector file.0) (Turning s t disks first last sector file.0) (D.world depot.old) (D.world depot.new) }
+        Moves file.0 (IsEither s t disks) (Turning s t disks first last sector file.0) (Turning s t disks first last sector file.0)
+        (D.world depot.old) (D.world depot.new) }
 
-    ensures stands { OnOk result ((s t : Shape) (disks : List (List ℕ)) (first last : ℕ) (sector : List ℕ) → Turning s t disks first last sector file.0 (D.world depot.old) → IsTrue (D.world depot.new).tells →
+    ensures stands { OnOk result ((s t : Shape) (disks : List (List ℕ)) (first last : ℕ) (sector : List ℕ) →
+        Turning s t disks first last sector file.0 (D.world depot.old) → IsTrue (D.world depot.new).tells →
         Standing s ((D.world depot.new).seen file.0 ∷ []) first last file.0 (D.world depot.new) ⊎ Standing t ((D.world depot.new).seen file.0 ∷ []) first last file.0 (D.world depot.new)) }
 
     ensures synced { Synced file.0 (D.world depot.old) (D.world depot.new) result }

@@ -19,7 +19,7 @@ use Rattle.qc_layout.specs.Owners as owners
 use Rattle.qc_layout.specs.Room.{TablesPass, IsInOrder, IsFreeFrom}
 use Rattle.qc_layout.proofs.Starts.{alike_fields, header_from_start}
 use Rattle.image_model.specs.Clusters.{Shape, size, per, each, place, offset, Who, Head, Counts, Block, Tables, Table, Guest, Bitmaps, IsTable, Refers, IsCounted, AllCounted, IsOffset, IsPlace, Forms, IsShape, SameIn, IsSafe}
-use Rattle.image_model.specs.Calls.{IsOpened}
+use Rattle.image_model.specs.Calls.{IsOpened, AreExactly, AreSettled}
 use Rattle.image_steps.proofs.Places.{place_zero, place_some, place_step}
 use Rattle.image_steps.proofs.Standing.{same_index}
 use Rattle.image_steps.proofs.Words.{IsPlain1, IsPlain2, offset_same, l1_plain, l1_at, l1_some, l1_says, l2_plain, l2_order, l2_host, l2_back, place_is, words_are, counts_are, whole, parts, table_plain, plain_table, guest_plain, plain_guest}
@@ -66,6 +66,27 @@ embed (owners.Block i) = Block i
 embed owners.Tables = Tables
 embed (owners.Table i) = Table i
 embed (owners.Guest i j) = Guest i j
+
+-- from there back
+abbrev unembed : Who → owners.Who
+unembed Head = owners.Head
+unembed Counts = owners.Counts
+unembed (Block i) = owners.Block i
+unembed Tables = owners.Tables
+unembed (Table i) = owners.Table i
+unembed (Guest i j) = owners.Guest i j
+unembed (Bitmaps held) = owners.Head
+
+unembed-embed : (a : owners.Who) → unembed (embed a) ≡ a
+unembed-embed owners.Head = refl
+unembed-embed owners.Counts = refl
+unembed-embed (owners.Block i) = refl
+unembed-embed owners.Tables = refl
+unembed-embed (owners.Table i) = refl
+unembed-embed (owners.Guest i j) = refl
+
+embed_one : (a b : owners.Who) → embed a ≡ embed b → a ≡ b
+embed_one a b same = sym (unembed-embed a) ∙ ap unembed same ∙ unembed-embed b
 
 module _ (s : Shape) (file : List ℕ) (is : IsHeaded s file) where
   abbrev bits : ℕ
@@ -250,44 +271,6 @@ module _ (s : Shape) (shape : IsShape s) (file : List ℕ) (long : 104 ≤ lengt
         below = λ a k x. omega (arith, all.below (embed a) k (to_mine s file is forms a k x), is.reach);
         counted = λ a k x. let c = all.counted (embed a) k (to_mine s file is forms a k x) in omega (arith, count_found s file is k c.0 c.2, c.1);
       }
-    where
-      embed_one : (a b : owners.Who) → embed a ≡ embed b → a ≡ b
-      embed_one owners.Head owners.Head e = refl
-      embed_one owners.Head owners.Counts e = absurd cc
-      embed_one owners.Head (owners.Block i) e = absurd cc
-      embed_one owners.Head owners.Tables e = absurd cc
-      embed_one owners.Head (owners.Table i) e = absurd cc
-      embed_one owners.Head (owners.Guest i j) e = absurd cc
-      embed_one owners.Counts owners.Head e = absurd cc
-      embed_one owners.Counts owners.Counts e = refl
-      embed_one owners.Counts (owners.Block i) e = absurd cc
-      embed_one owners.Counts owners.Tables e = absurd cc
-      embed_one owners.Counts (owners.Table i) e = absurd cc
-      embed_one owners.Counts (owners.Guest i j) e = absurd cc
-      embed_one (owners.Block i) owners.Head e = absurd cc
-      embed_one (owners.Block i) owners.Counts e = absurd cc
-      embed_one (owners.Block i) (owners.Block n) e = cc
-      embed_one (owners.Block i) owners.Tables e = absurd cc
-      embed_one (owners.Block i) (owners.Table n) e = absurd cc
-      embed_one (owners.Block i) (owners.Guest n m) e = absurd cc
-      embed_one owners.Tables owners.Head e = absurd cc
-      embed_one owners.Tables owners.Counts e = absurd cc
-      embed_one owners.Tables (owners.Block i) e = absurd cc
-      embed_one owners.Tables owners.Tables e = refl
-      embed_one owners.Tables (owners.Table i) e = absurd cc
-      embed_one owners.Tables (owners.Guest i j) e = absurd cc
-      embed_one (owners.Table i) owners.Head e = absurd cc
-      embed_one (owners.Table i) owners.Counts e = absurd cc
-      embed_one (owners.Table i) (owners.Block n) e = absurd cc
-      embed_one (owners.Table i) owners.Tables e = absurd cc
-      embed_one (owners.Table i) (owners.Table n) e = cc
-      embed_one (owners.Table i) (owners.Guest n m) e = absurd cc
-      embed_one (owners.Guest i j) owners.Head e = absurd cc
-      embed_one (owners.Guest i j) owners.Counts e = absurd cc
-      embed_one (owners.Guest i j) (owners.Block n) e = absurd cc
-      embed_one (owners.Guest i j) owners.Tables e = absurd cc
-      embed_one (owners.Guest i j) (owners.Table n) e = absurd cc
-      embed_one (owners.Guest i j) (owners.Guest n m) e = cc
 
   pub tables_pass : Forms s file → TablesPass file
   tables_pass forms =
@@ -364,3 +347,29 @@ found_opened s next shape none pass low end =
 -- where nothing is counted nothing is referred to
 pub free_below : (file : List ℕ) (next : ℕ) → TablesPass file → IsFreeFrom file next → (a : owners.Who) (k : ℕ) → owners.Refers file a k → k < next
 free_below file next pass free a k refers = elim (cases_lt k next) [ inl low ↦ low | inr from ↦ absurd (omega (arith, free.uncounted k from, pass.counted.counted a k refers)) ]
+
+-- ---- a file that rests, all counts of which are settled, is tight
+
+pub settled_tight : (s : Shape) (list : List (List ℕ)) (taken : ℕ → Bool) (file : List ℕ) → IsShape s → ((k : ℕ) → s.owner k ≡ None) → 104 ≤ length s.base → IsSafe s list file → AreExactly s taken file → AreSettled s taken file → owners.Tight file
+settled_tight s list taken file shape no_bitmaps long safe exactly settled = record {
+  counted = (safe_passes s list file shape long safe).counted;
+  ones = λ a k refers.
+      let mine = to_mine s file is safe.forms a k refers in
+      let c = safe.counted.counted (embed a) k mine in
+      count_found s file is k c.0 c.2 ∙ settled k c.0 c.2 ∙ ap (λ (b : Bool). if b then 1 else 0) (exactly.named (embed a) k mine);
+  others = λ k none. elim (cases_lt 0 (refcount file k)) [
+    | inr not ↦ omega (arith, not)
+    | inl more ↦ by_taken k none (taken k) refl (settled k (refcount file k) (count_of s file is safe.forms.blocks k more))
+  ];
+}
+  where
+    is : IsHeaded s file
+    is = headed s file shape (same_fields s shape file long safe.counted (safe.fixed 0 (inl refl)))
+
+    by_taken : (k : ℕ) → ((a : owners.Who) → owners.Refers file a k → ⊥) → (b : Bool) → taken k ≡ b → refcount file k ≡ (if taken k then 1 else 0) → refcount file k ≡ 0
+    by_taken k none false same count = count ∙ ap (λ (t : Bool). if t then 1 else 0) same
+    by_taken k none true same count =
+        let who = exactly.exact k same in
+        let back = back_of s file is (λ i inside. table_plain s is.some (bits_of file) is.cluster (u64_at file (s.l1 + 8 * i)) (safe.forms.tables i inside))
+        (λ i q j linked j_in. guest_plain s is.some (bits_of file) is.cluster (u64_at file (place s q + 8 * j)) (safe.forms.entries i q j linked j_in)) no_bitmaps who.0 k who.1 in
+        absurd (none back.0 back.1)

@@ -3,8 +3,8 @@ use Rattle.std.proofs.Common.{ℕ, ◌+◌, ◌<◌, ◌≤◌, IsTrue, List, �
 use Rattle.disk_model.specs.World.{World, Parts, Runs}
 use Rattle.image_model.specs.Clusters.{Shape, per, IsStanding}
 use Rattle.image_model.specs.Calls.{LeavesGuest}
-use Rattle.image_model.specs.Runs.{IsHolding, HasData, IsLinking, LeavesRest, IsLinked, AreAsBefore, IsStored}
-use Rattle.image_steps.proofs.Links.{keeps_on}
+use Rattle.image_model.specs.Runs.{IsFilling, IsHolding, HasData, IsLinking, LeavesRest, IsLinked, AreAsBefore, IsStored}
+use Rattle.image_steps.proofs.Links.{keeps_on, keeps_takeable}
 use Rattle.image_steps.proofs.Naming.{same_host}
 use Rattle.image_steps.proofs.Standing.{stands_less}
 
@@ -27,6 +27,19 @@ linking_on {parts} {s} {first} {k} {n} {q} {i} {j} {spot} {f} {words} {a} {b} ru
         linked = left.keeps.tables i q (is.opened was).linked;
         none = λ m m_in. same_host s (a.seen f) (b.seen f) i (j + m) (left.alike.entries i (j + m) is.slots.index (omega (arith, is.slots.slots, m_in))) ∙ (is.opened was).none m m_in;
       };
+}
+
+-- and leaves what is ready to be filled, where the ready clusters begin no later than these, and end no earlier than before
+pub filling_on : {parts : Parts} {s : Shape} {first last k n at long f : ℕ} {a b : World} (on last_on : ℕ) → Runs parts a b → IsFilling s first last k n at long f a → on ≤ k → last ≤ last_on → (IsTrue a.tells → LeavesGuest s (a.seen f) (b.seen f))
+    → IsFilling s on last_on k n at long f b
+filling_on {parts} {s} {first} {last} {k} {n} {at} {long} {f} {a} {b} on last_on run is low more leaves = record {
+  shape = is.shape;
+  some = is.some;
+  low = is.low;
+  high = is.high;
+  from = low;
+  to = omega (arith, is.to, more);
+  takeable = λ m m_in told. let was = subst IsTrue run.goes.tells told in keeps_takeable s (a.seen f) (b.seen f) (k + m) (leaves was).keeps (is.takeable m m_in was);
 }
 
 pub rest_of : {s : Shape} {i j n : ℕ} {old new : List ℕ} → LeavesGuest s old new → LeavesRest s i j n old new

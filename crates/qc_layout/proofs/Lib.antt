@@ -26,3 +26,4 @@ pub mod Checking
 pub mod Claims
 pub mod Orderly
 pub mod Opening
+pub mod OwnerLaws

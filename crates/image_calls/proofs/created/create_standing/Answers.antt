@@ -1,4 +1,4 @@
-use Rattle.std.proofs.Common.{List, IsTrue, subst, sym}
+use Rattle.std.proofs.Common.{IsTrue, subst, sym}
 use Rattle.backup_file.specs.Layout.{all_clusters}
 use Rattle.backup_file.specs.Made.{IsNewSource}
 use Rattle.file_device.proofs.Laws.{given}

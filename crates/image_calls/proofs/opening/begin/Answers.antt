@@ -1,4 +1,4 @@
-use Rattle.std.proofs.Common.{ℕ, List, IsTrue, subst, sym}
+use Rattle.std.proofs.Common.{ℕ, IsTrue, subst, sym}
 use Rattle.std.proofs.lemmas.Result.{on_ok_weaker}
 use Rattle.disk_model.specs.World.{HasSynced}
 use Rattle.disk_model.proofs.Laws.{synced_exact}

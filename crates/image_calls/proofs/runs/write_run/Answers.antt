@@ -1,8 +1,6 @@
-use Rattle.std.proofs.Common.{◌≡◌, ◌⊎◌, inl, inr, ⊎_elim, ℕ, ◌+◌, ◌*◌, ◌<◌, List, ◌∷◌, IsTrue, sym, subst, arith}
+use Rattle.std.proofs.Common.{inl, inr, ⊎_elim, ◌+◌, ◌*◌, IsTrue, sym, subst, arith}
 use Rattle.disk_model.specs.Files.{u64_at}
-use Rattle.image_model.specs.Clusters.{per}
-use Rattle.image_model.specs.Runs.{AreAsBefore, AreLinked, IsInSector}
-use Rattle.file_device.proofs.Laws.{puts_on, puts_err}
+use Rattle.image_model.specs.Runs.{AreAsBefore, AreLinked}
 use Rattle.image_steps.proofs.Good.{more_safe}
 use Rattle.image_steps.proofs.Standing.{moves_on, moves_more}
 use Rattle.image_steps.proofs.Storing.{holding_stands, linking_on, rest_of, rest_after, stored_by, before_after}
