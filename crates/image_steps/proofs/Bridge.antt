@@ -16,6 +16,9 @@ use Rattle.qc_layout.specs.Laws.{BeginAlike}
 use Rattle.qc_layout.specs.Disks.{bits_of, place_of, words_in, counts_in, blocks_in, block_at, table_at, refcount, reach_of}
 use Rattle.qc_layout.specs.Owners.{HostIs, TablesCounted}
 use Rattle.qc_layout.specs.Owners as owners
+use Rattle.qc_layout.specs.Directory.{directory_in}
+use Rattle.qc_layout.proofs.Directories.{stores_nothing}
+use Rattle.qc_layout.proofs.OwnerLaws.{counted_bare}
 use Rattle.qc_layout.specs.Room.{TablesPass, IsInOrder, IsFreeFrom}
 use Rattle.qc_layout.proofs.Starts.{alike_fields, header_from_start}
 use Rattle.image_model.specs.Clusters.{Shape, size, per, each, place, offset, Who, Head, Counts, Block, Tables, Table, Guest, Bitmaps, IsTable, Refers, IsCounted, AllCounted, IsOffset, IsPlace, Forms, IsShape, SameIn, IsSafe}
@@ -348,23 +351,28 @@ found_opened s next shape none pass low end =
 pub free_below : (file : List ℕ) (next : ℕ) → TablesPass file → IsFreeFrom file next → (a : owners.Who) (k : ℕ) → owners.Refers file a k → k < next
 free_below file next pass free a k refers = elim (cases_lt k next) [ inl low ↦ low | inr from ↦ absurd (omega (arith, free.uncounted k from, pass.counted.counted a k refers)) ]
 
--- ---- a file that rests, all counts of which are settled, is tight
+-- ---- a file without bitmaps that rests, all counts of which are settled, is tight
 
-pub settled_tight : (s : Shape) (list : List (List ℕ)) (taken : ℕ → Bool) (file : List ℕ) → IsShape s → ((k : ℕ) → s.owner k ≡ None) → 104 ≤ length s.base → IsSafe s list file → AreExactly s taken file → AreSettled s taken file → owners.Tight file
-settled_tight s list taken file shape no_bitmaps long safe exactly settled = record {
-  counted = (safe_passes s list file shape long safe).counted;
-  ones = λ a k refers.
-      let mine = to_mine s file is safe.forms a k refers in
-      let c = safe.counted.counted (embed a) k mine in
-      count_found s file is k c.0 c.2 ∙ settled k c.0 c.2 ∙ ap (λ (b : Bool). if b then 1 else 0) (exactly.named (embed a) k mine);
+pub settled_tight : (s : Shape) (list : List (List ℕ)) (taken : ℕ → Bool) (file : List ℕ) → IsShape s → ((k : ℕ) → s.owner k ≡ None) → 104 ≤ length s.base → directory_in file ≡ None
+    → IsSafe s list file → AreExactly s taken file → AreSettled s taken file → owners.Tight file
+settled_tight s list taken file shape no_bitmaps long bare safe exactly settled = record {
+  counted = counted_bare file bare (safe_passes s list file shape long safe).counted;
+  ones = ones;
   others = λ k none. elim (cases_lt 0 (refcount file k)) [
     | inr not ↦ omega (arith, not)
-    | inl more ↦ by_taken k none (taken k) refl (settled k (refcount file k) (count_of s file is safe.forms.blocks k more))
+    | inl more ↦ by_taken k (λ a. none (owners.Image a)) (taken k) refl (settled k (refcount file k) (count_of s file is safe.forms.blocks k more))
   ];
 }
   where
     is : IsHeaded s file
     is = headed s file shape (same_fields s shape file long safe.counted (safe.fixed 0 (inl refl)))
+
+    ones : (a : owners.Owner) (k : ℕ) → owners.Owns file a k → refcount file k ≡ 1
+    ones (owners.Image a) k refers =
+        let mine = to_mine s file is safe.forms a k refers in
+        let c = safe.counted.counted (embed a) k mine in
+        count_found s file is k c.0 c.2 ∙ settled k c.0 c.2 ∙ ap (λ (b : Bool). if b then 1 else 0) (exactly.named (embed a) k mine)
+    ones (owners.Bitmaps held) k holds = absurd ((stores_nothing file bare).held held k holds)
 
     by_taken : (k : ℕ) → ((a : owners.Who) → owners.Refers file a k → ⊥) → (b : Bool) → taken k ≡ b → refcount file k ≡ (if taken k then 1 else 0) → refcount file k ≡ 0
     by_taken k none false same count = count ∙ ap (λ (t : Bool). if t then 1 else 0) same
