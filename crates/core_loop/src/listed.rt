@@ -72,7 +72,10 @@ impl<'a, D: Console, T: Teller> Source<D> for Listed<'a, T> {
     }
 
     fn answered(&mut self, outside: &mut D, number: u64, answer: &Answer) -> Result<(), Halt> {
-        match self.teller.tell(outside, number, self.held.unwrap(), answer) {
+        match self
+            .teller
+            .tell(outside, number, self.held.unwrap(), answer)
+        {
             Ok(()) => Ok(()),
             Err(_) => Err(Halt::Fault),
         }
