@@ -2,7 +2,7 @@
 use Rattle.std.proofs.Common.{◌≡◌, inl, inr, ℕ, ◌+◌, ◌<◌, ◌≤◌, List, [], ◌∷◌, ◌++◌, length, Option, refl, sym, ap, ◌∙◌, append_assoc, arith}
 use Rattle.std.proofs.lemmas.Bool.{cases_Bool}
 use Rattle.std.proofs.lemmas.List.{append-nil}
-use Rattle.disk_model.specs.World.{Runs, only_text}
+use Rattle.disk_model.specs.World.{Runs}
 use Rattle.disk_model.proofs.Moments.{run_on, run_more, stay, Within}
 use Rattle.bitmap_model.specs.Bitmap.{StoredBitmap}
 use Rattle.core_events.specs.Events.{Event, Guest, Monitor, Tick}

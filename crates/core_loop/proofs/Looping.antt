@@ -255,9 +255,11 @@ module _ {reading : Reading} {text : ℕ → Event → Answer → List ℕ} {bef
           most = omega arith;
           rest = [];
           in_part = λ prints. in_part t.0 t.1.moves t.2 (t.3 prints) (part (stepped_prints prints));
-          printed = λ owes. record { printed = λ prints. (whole owes).printed (stepped_prints prints) ∙ ap (λ (p : List ℕ). p ++ text number given.event answer) (t.3 prints)
-              ∙ append_assoc (old.printed ++ texts text t.0) given.said (text number given.event answer)
-              ∙ append_assoc old.printed (texts text t.0) (given.said ++ text number given.event answer) ∙ ap (λ (p : List ℕ). old.printed ++ p) (sym t.2 ∙ sym (append-nil _)) };
+          printed = λ owes. record {
+            printed = λ prints. (whole owes).printed (stepped_prints prints) ∙ ap (λ (p : List ℕ). p ++ text number given.event answer) (t.3 prints)
+                ∙ append_assoc (old.printed ++ texts text t.0) given.said (text number given.event answer)
+                ∙ append_assoc old.printed (texts text t.0) (given.said ++ text number given.event answer) ∙ ap (λ (p : List ℕ). old.printed ++ p) (sym t.2 ∙ sym (append-nil _));
+          };
           between = λ well. absurd (false≢true well);
           all = λ well. absurd (false≢true well);
           halted = halted_after new t.4 why failed;
@@ -353,8 +355,10 @@ module _ {reading : Reading} {text : ℕ → Event → Answer → List ℕ} {bef
       let was = w.ran files s told (starts_done starts) in
       let q = spared_on (subst IsTrue (sym (run.goes.tells ∙ w.run.goes.tells)) told) run (works_within after s2 new event answer) (no_files event command) (λ name none. none) keep was.0 talk_within
       (run_on (run_more talk_in_reads was.0.reached) (run_more (command_reads event command) run)) in
-      let printed : Says (texts text q.0.moves ++ rest) old new = record { printed = λ prints. (run.text (λ none. none)).printed ∙ (went_printed files s told (starts_done starts)).printed prints
-      ∙ ap (λ (moves : List Move). old.printed ++ (texts text moves ++ rest)) (sym q.1) } in
+      let printed : Says (texts text q.0.moves ++ rest) old new = record {
+        printed = λ prints. (run.text (λ none. none)).printed ∙ (went_printed files s told (starts_done starts)).printed prints
+            ∙ ap (λ (moves : List Move). old.printed ++ (texts text moves ++ rest)) (sym q.1);
+      } in
       record {
         n = length done;
         ran = ran_as (sym by.taken) q.0;
@@ -385,9 +389,11 @@ module _ {reading : Reading} {text : ℕ → Event → Answer → List ℕ} {bef
       let was = w.ran files s told (record { file_is = starts.file_is; id_is = starts.id_is; keeps = starts.keeps; backups = starts.backups; covers = by.less files old starts.covers }) in
       let told_new : IsTrue new.tells = subst IsTrue (sym (talk.goes.tells ∙ w.run.goes.tells)) told in
       let q = spared_on told_new talk talk_within (λ f none. none) (λ name none. none) keep was.0 talk_within (run_on was.0.reached talk) in
-      let printed : Says (texts text q.0.moves ++ more) old new = record { printed = λ prints.
-          says.printed (subst IsTrue (sym w.run.goes.prints) prints) ∙ ap (λ (p : List ℕ). p ++ more) (was.1 prints ∙ append-nil _ ∙ told_are reading text (old.named before.file) (start_cut s old) was.0.moves was.0.steps)
-              ∙ append_assoc old.printed (texts text was.0.moves) more ∙ ap (λ (moves : List Move). old.printed ++ (texts text moves ++ more)) (sym q.1) } in
+      let printed : Says (texts text q.0.moves ++ more) old new = record {
+        printed = λ prints.
+            says.printed (subst IsTrue (sym w.run.goes.prints) prints) ∙ ap (λ (p : List ℕ). p ++ more) (was.1 prints ∙ append-nil _ ∙ told_are reading text (old.named before.file) (start_cut s old) was.0.moves was.0.steps)
+            ∙ append_assoc old.printed (texts text was.0.moves) more ∙ ap (λ (moves : List Move). old.printed ++ (texts text moves ++ more)) (sym q.1);
+      } in
       record {
         n = length done;
         ran = ran_in (sym by.taken) q.0;

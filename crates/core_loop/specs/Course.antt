@@ -38,6 +38,10 @@ pub record Given : Type 0 where
 abbrev pub asked : List Given → List Event
 asked given = map (λ (g : Given). g.event) given
 
+-- these events, with nothing said before any
+abbrev pub unsaid : List Event → List Given
+unsaid events = map (λ (e : Event). record { said = []; event = e }) events
+
 -- A moment between two events, before the answer to the first of them is told: the state, the world, what is to be printed before the
 -- next event, and how many events were carried out.
 pub record Cut : Type 0 where

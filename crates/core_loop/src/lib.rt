@@ -6,7 +6,9 @@
 
 mod events;
 pub mod laws;
+mod listed;
 mod session;
 
 pub use events::{Halt, Source, run_events};
+pub use listed::{Listed, Teller};
 pub use session::{Stop, run_session};

@@ -1,4 +1,4 @@
-use Rattle.std.proofs.Common.{◌≡◌, inl, inr, ℕ, ◌+◌, List, [], ◌∷◌, ◌++◌, length, Some, true, false, refl, sym, ap, subst, ◌∙◌, arith, rules}
+use Rattle.std.proofs.Common.{◌≡◌, inl, inr, ℕ, ◌+◌, List, [], ◌∷◌, ◌++◌, length, Some, false, refl, sym, ap, subst, ◌∙◌, arith, rules}
 use Rattle.std.proofs.lemmas.List.{length-append}
 use Rattle.core_events.specs.Events as events
 use Rattle.core_events.specs.Views.{plain_event, plain_answer}
@@ -26,7 +26,7 @@ returns-in-Err-clause-ran g c =
     let mid = g.D.Outside.world c.loop-alloc.depot in
     let heard = g.D.Outside.world c.next.new.outside in
     let keep = λ (s : State) (keeps : g.N.Node.keeps c.loop-alloc.node mid s).
-        g.met.N.Node.spared c.loop-alloc.node mid heard s (talk_spares (g.N.Node.shown c.loop-alloc.node) i.0.files c.next.ensures.run) keeps in
+    g.met.N.Node.spared c.loop-alloc.node mid heard s (talk_spares (g.N.Node.shown c.loop-alloc.node) i.0.files c.next.ensures.run) keeps in
     stopped_asking (but_none c.in-Err.ensures.kept) i.0 c.next.ensures.run keep c.in-Err.ensures.said.1 c.in-Err.why c.in-Err.ensures.cause
 
 pub returns-in_default-clause-ran : goal.returns-in_default-clause-ran
@@ -35,7 +35,7 @@ returns-in_default-clause-ran g c =
     let mid = g.D.Outside.world c.loop-alloc.depot in
     let heard = g.D.Outside.world c.next.new.outside in
     let keep = λ (s : State) (keeps : g.N.Node.keeps c.loop-alloc.node mid s).
-        g.met.N.Node.spared c.loop-alloc.node mid heard s (talk_spares (g.N.Node.shown c.loop-alloc.node) i.0.files c.next.ensures.run) keeps in
+    g.met.N.Node.spared c.loop-alloc.node mid heard s (talk_spares (g.N.Node.shown c.loop-alloc.node) i.0.files c.next.ensures.run) keeps in
     let one = c.in-Ok.ensures.gave.one (search rules) in
     let w = said_more i.0 c.next.ensures.run keep one.said in
     stopped_early w (but_last one.given one.more_is)
@@ -46,7 +46,7 @@ returns-in_default-step-clause-ran g c =
     let mid = g.D.Outside.world c.loop-alloc.depot in
     let heard = g.D.Outside.world c.next.new.outside in
     let keep = λ (s : State) (keeps : g.N.Node.keeps c.loop-alloc.node mid s).
-        g.met.N.Node.spared c.loop-alloc.node mid heard s (talk_spares (g.N.Node.shown c.loop-alloc.node) i.0.files c.next.ensures.run) keeps in
+    g.met.N.Node.spared c.loop-alloc.node mid heard s (talk_spares (g.N.Node.shown c.loop-alloc.node) i.0.files c.next.ensures.run) keeps in
     let one = c.in-Ok.ensures.gave.one (search rules) in
     let w = said_more i.0 c.next.ensures.run keep one.said in
     stopped_within w (but_last one.given one.more_is) (g.N.Node.shown c.step.new.self) (plain_event c.event-event.result.now) (plain_answer c.step.new.answer) c.in_default-step.ensures.command c.step.ensures.run c.in_default-step.ensures.undone
@@ -60,7 +60,7 @@ returns-then-not-more-clause-ran g c =
     let mid = g.D.Outside.world c.loop-alloc.depot in
     let heard = g.D.Outside.world c.next.new.outside in
     let keep = λ (s : State) (keeps : g.N.Node.keeps c.loop-alloc.node mid s).
-        g.met.N.Node.spared c.loop-alloc.node mid heard s (talk_spares (g.N.Node.shown c.loop-alloc.node) i.0.files c.next.ensures.run) keeps in
+    g.met.N.Node.spared c.loop-alloc.node mid heard s (talk_spares (g.N.Node.shown c.loop-alloc.node) i.0.files c.next.ensures.run) keeps in
     let none = c.in-Ok.ensures.gave.none (search rules) in
     ended_well (said_more i.0 c.next.ensures.run keep none.said) (but_none none.more_is) (ap length (sym none.more_is)) (inl none.is_over)
 
@@ -73,7 +73,7 @@ returns-in-Err-answered-clause-ran g c =
     let mid = g.D.Outside.world c.loop-alloc.depot in
     let heard = g.D.Outside.world c.next.new.outside in
     let keep = λ (s : State) (keeps : g.N.Node.keeps c.loop-alloc.node mid s).
-        g.met.N.Node.spared c.loop-alloc.node mid heard s (talk_spares (g.N.Node.shown c.loop-alloc.node) i.0.files c.next.ensures.run) keeps in
+    g.met.N.Node.spared c.loop-alloc.node mid heard s (talk_spares (g.N.Node.shown c.loop-alloc.node) i.0.files c.next.ensures.run) keeps in
     let one = c.in-Ok.ensures.gave.one (search rules) in
     let w = said_more i.0 c.next.ensures.run keep one.said in
     let event = plain_event c.event-event.result.now in
@@ -87,7 +87,7 @@ returns-in-Err-answered-clause-ran g c =
     let running : (g.N.Node.shown c.loop-alloc.node).ended ≡ false = search rules in
     let number : c.loop-alloc.number + 1 ≡ length done + 1 = ap (λ (n : ℕ). n + 1) i.2 in
     let spare = λ (s : State) (keeps : g.N.Node.keeps c.step.new.self stepped s).
-        g.met.N.Node.spared c.step.new.self stepped new s (talk_spares (g.N.Node.shown c.step.new.self) c.step.ensures.given c.answered.ensures.run) keeps in
+    g.met.N.Node.spared c.step.new.self stepped new s (talk_spares (g.N.Node.shown c.step.new.self) c.step.ensures.given c.answered.ensures.run) keeps in
     stopped_telling {given = given} w (g.met.N.Node.stands c.loop-alloc.node heard) (g.met.N.Node.stands c.step.new.self stepped) (g.met.N.Node.safe c.step.new.self stepped) c.in-Ok-step.ensures.steps
     running c.step.ensures.source c.step.ensures.run c.answered.ensures.run spare (c.loop-alloc.number + 1) number
     all c.in-Err-answered.why (c.answered.ensures.part event c.event-event.ensures) (c.in-Err-answered.ensures.told event c.event-event.ensures) c.in-Err-answered.ensures.cause
@@ -98,7 +98,7 @@ loop-alloc-preserved g c =
     let mid = g.D.Outside.world c.loop-alloc.depot in
     let heard = g.D.Outside.world c.next.new.outside in
     let keep = λ (s : State) (keeps : g.N.Node.keeps c.loop-alloc.node mid s).
-        g.met.N.Node.spared c.loop-alloc.node mid heard s (talk_spares (g.N.Node.shown c.loop-alloc.node) i.0.files c.next.ensures.run) keeps in
+    g.met.N.Node.spared c.loop-alloc.node mid heard s (talk_spares (g.N.Node.shown c.loop-alloc.node) i.0.files c.next.ensures.run) keeps in
     let one = c.in-Ok.ensures.gave.one (search rules) in
     let w = said_more i.0 c.next.ensures.run keep one.said in
     let event = plain_event c.event-event.result.now in
@@ -112,7 +112,7 @@ loop-alloc-preserved g c =
     let running : (g.N.Node.shown c.loop-alloc.node).ended ≡ false = search rules in
     let number : c.loop-alloc.number + 1 ≡ length done + 1 = ap (λ (n : ℕ). n + 1) i.2 in
     let spare = λ (s : State) (keeps : g.N.Node.keeps c.step.new.self stepped s).
-        g.met.N.Node.spared c.step.new.self stepped new s (talk_spares (g.N.Node.shown c.step.new.self) c.step.ensures.given c.answered.ensures.run) keeps in
+    g.met.N.Node.spared c.step.new.self stepped new s (talk_spares (g.N.Node.shown c.step.new.self) c.step.ensures.given c.answered.ensures.run) keeps in
     let old = g.D.Outside.world c.args.depot.now in
     let went = went_more {given = given} w (g.met.N.Node.stands c.loop-alloc.node heard) (g.met.N.Node.stands c.step.new.self stepped) (g.met.N.Node.safe c.step.new.self stepped) c.in-Ok-step.ensures.steps
     running c.step.ensures.source c.step.ensures.run c.answered.ensures.run spare (c.loop-alloc.number + 1) number

@@ -1,8 +1,8 @@
-use Rattle.std.proofs.Common.{◌≡◌, inl, inr, ℕ, List, map, IsTrue, Ok, Err, refl, sym, ap, subst, ◌∙◌}
+use Rattle.std.proofs.Common.{◌≡◌, inl, inr, ℕ, List, IsTrue, Ok, Err, refl, sym, ap, subst, ◌∙◌}
 use Rattle.std.proofs.lemmas.Bool.{false≢true}
 use Rattle.disk_model.specs.World.{Runs, only_file}
 use Rattle.disk_model.proofs.Moments.{run_on, run_more}
-use Rattle.core_events.specs.Views.{plain_event, plain_answer}
+use Rattle.core_events.specs.Views.{plain_answer}
 use Rattle.core_loop.specs.Course.{last_cut}
 use Rattle.core_node.specs.Ends.{NodeBegins, Closes, Closed, NotClosedBy}
 use Rattle.core_loop.specs.Sessions.{RanEvents, start_cut}
