@@ -1,0 +1,250 @@
+//! What an image of the form is, and its first sector with the next epoch.
+
+ghost use Rattle.std.specs.Prelude.{◌≡◌, ◌+◌, ◌*◌, ◌^◌, ◌<◌, ◌≤◌, IsTrue, IfOk, IfErr};
+ghost use Rattle.disk_model.specs.World.{World, Runs, reads_of};
+ghost use Rattle.file_device.specs.File.{file_of, Gives};
+ghost use Rattle.file_device.specs.Calls.{Looks};
+ghost use Rattle.qc_layout.specs.Header.{fields_of};
+ghost use Rattle.qc_layout.specs.Spelling.{Spells};
+ghost use Rattle.qc_layout.specs.Room.{room_from};
+ghost use Rattle.qc_layout.specs.declared.header.Part.TheVariants as parts;
+ghost use Rattle.toy_core.specs.Image.{Numbers, Opens, IsImageOf, IsLooked, NotLookedFor, HasNextEpoch, is_missing_in, missing_in};
+ghost use Rattle.toy_core.specs.declared.image.NotLooked.TheVariants as unlooked;
+
+use crate::toy::Toy;
+use disk_model::{Depot, Failed, FileNo};
+use file_device::{read, word};
+use qc_layout::{
+    Fields, Header, HeaderFault, L2Entry, Own, Part, read_header, read_l1, read_l2, write_header,
+};
+use span_algebra::Name;
+use std::alloc::{AllocError, AllocFailed, Global};
+
+/// How many of a file's first bytes say what its header says, at most.
+const START: usize = 65536;
+
+/// No range ends past this place.
+const END: u64 = 1 << 62;
+
+/// Why it isn't known what an image is.
+#[derive(Debug, Drop)]
+pub enum NotLooked {
+    /// It is of another form.
+    Other,
+    /// A call on its file failed.
+    Failed,
+    /// There was no memory.
+    Memory,
+}
+
+impl From<AllocError> for NotLooked {
+    ghost from_gives = { λ _ e. e ≡ unlooked.Memory };
+
+    fn from(_e: AllocError) -> NotLooked {
+        NotLooked::Memory
+    }
+}
+
+impl<T: Drop> From<AllocFailed<T>> for NotLooked {
+    ghost from_gives = { λ _ e. e ≡ unlooked.Memory };
+
+    fn from(_e: AllocFailed<T>) -> NotLooked {
+        NotLooked::Memory
+    }
+}
+
+impl From<Failed> for NotLooked {
+    ghost from_gives = { λ _ e. e ≡ unlooked.Failed };
+
+    fn from(_e: Failed) -> NotLooked {
+        NotLooked::Failed
+    }
+}
+
+/// The header of a file.
+fn find_header<D: Depot>(alloc: Global, depot: &mut D, file: FileNo) -> Result<Header, NotLooked>
+    requires { file.0 < (D.world depot.old).given }
+    ensures spells { IfOk result (λ h. IsTrue (D.world depot.old).tells → Opens ((D.world depot.old).seen file.0) → Spells parts.Source ((D.world depot.old).seen file.0) h) }
+    ensures not { IfErr result (λ why. NotLookedFor why file.0 (D.world depot.old) (D.world depot.new)) }
+    ensures run { Runs (reads_of file.0) (D.world depot.old) (D.world depot.new) }
+{
+    let mut bytes = vec![in alloc; 0u8; START]?;
+    read(depot, file, 0, &mut bytes)?;
+    match read_header(alloc, &bytes, Part::Source) {
+        Ok(header) => Ok(header),
+        Err(HeaderFault::Memory) => Err(NotLooked::Memory),
+        Err(_) => Err(NotLooked::Other),
+    }
+}
+
+/// Where the guest's bytes begin: at the host cluster that the first entry of the first table names.
+fn find_base<D: Depot>(depot: &mut D, file: FileNo, fields: &Fields) -> Result<u64, NotLooked>
+    requires given { file.0 < (D.world depot.old).given }
+    requires fields { IsTrue (D.world depot.old).tells → Opens ((D.world depot.old).seen file.0) → fields.now ≡ fields_of ((D.world depot.old).seen file.0) }
+    ensures base { IfOk result (λ base. IsTrue (D.world depot.old).tells → (n : Numbers) → IsImageOf n ((D.world depot.old).seen file.0) → base ≡ n.base) }
+    ensures not { IfErr result (λ why. NotLookedFor why file.0 (D.world depot.old) (D.world depot.new)) }
+    ensures run { Runs (reads_of file.0) (D.world depot.old) (D.world depot.new) }
+{
+    let bits = fields.cluster_bits;
+    if bits < 9 || bits > 21 || fields.l1_table_offset > END - 8 {
+        return Err(NotLooked::Other);
+    }
+    let first = word(depot, file, fields.l1_table_offset)?;
+    let Ok(Some(table)) = read_l1(first, bits) else {
+        return Err(NotLooked::Other);
+    };
+    let second = word(depot, file, table)?;
+    match read_l2(second, bits) {
+        Ok(L2Entry::Stored(host)) => Ok(host),
+        _ => Err(NotLooked::Other),
+    }
+}
+
+/// Where the blocks of refcounts are named, how many there may be, how many clusters each counts, and between which two
+/// clusters a missing one is counted.
+#[derive(Clone, Copy)]
+struct Blocks {
+    at: u64,
+    count: u64,
+    counts: u64,
+    next: u64,
+    reach: u64,
+}
+
+/// Whether a block is missing that counts a cluster between the two.
+fn is_missing<D: Depot>(
+    depot: &mut D,
+    file: FileNo,
+    blocks: &Blocks,
+    i: u64,
+) -> Result<bool, Failed>
+    requires given { file.0 < (D.world depot.old).given }
+    requires end { blocks.now.at + 8 * i + 8 ≤ 2 ^ 62 }
+    requires near { (i + 1) * blocks.now.counts < 2 ^ 64 }
+    ensures missing { IfOk result (λ missing. Gives (file_of (D.world depot.old) file.0) (λ c. missing ≡ is_missing_in c blocks.now i)) }
+    ensures looks { Looks file.0 (D.world depot.old) (D.world depot.new) result }
+{
+    let entry = word(depot, file, blocks.at + 8 * i)?;
+    Ok(entry / 512 == 0 && blocks.next < (i + 1) * blocks.counts && i * blocks.counts < blocks.reach)
+}
+
+/// How many blocks are missing that count a cluster between the two.
+fn count_missing<D: Depot>(
+    depot: &mut D,
+    file: FileNo,
+    blocks: &Blocks,
+) -> Result<u64, Failed>
+    requires given { file.0 < (D.world depot.old).given }
+    requires end { blocks.now.at + 8 * blocks.now.count ≤ 2 ^ 62 }
+    requires near { (blocks.now.count + 1) * blocks.now.counts < 2 ^ 64 }
+    requires few { blocks.now.count < 2 ^ 62 }
+    ensures missing { IfOk result (λ missing. Gives (file_of (D.world depot.old) file.0) (λ c. missing ≡ missing_in c blocks.now)) }
+    ensures looks { Looks file.0 (D.world depot.old) (D.world depot.new) result }
+{
+    let mut missing = 0;
+    for i in 0..blocks.count {
+        if is_missing(depot, file, blocks, i)? {
+            missing += 1;
+        }
+    }
+    Ok(missing)
+}
+
+/// How many clusters from this one on can be handed out.
+fn find_room<D: Depot>(
+    depot: &mut D,
+    file: FileNo,
+    fields: &Fields,
+    next: u64,
+) -> Result<u64, NotLooked>
+    requires given { file.0 < (D.world depot.old).given }
+    requires fields { IsTrue (D.world depot.old).tells → Opens ((D.world depot.old).seen file.0) → fields.now ≡ fields_of ((D.world depot.old).seen file.0) }
+    ensures room { IfOk result (λ room. IsTrue (D.world depot.old).tells → Opens ((D.world depot.old).seen file.0) → room ≡ room_from ((D.world depot.old).seen file.0) next) }
+    ensures not { IfErr result (λ why. NotLookedFor why file.0 (D.world depot.old) (D.world depot.new)) }
+    ensures run { Runs (reads_of file.0) (D.world depot.old) (D.world depot.new) }
+{
+    let bits = fields.cluster_bits;
+    if bits < 9 || bits > 21 {
+        return Err(NotLooked::Other);
+    }
+    let cluster = 1u64 << bits;
+    let long = u64::from(fields.refcount_table_clusters) * cluster;
+    let at = fields.refcount_table_offset;
+    if long > 1 << 26 || at > END - long {
+        return Err(NotLooked::Other);
+    }
+    let counts = cluster / 2;
+    let count = u64::from(fields.refcount_table_clusters) * (cluster / 8);
+    let reach = (count * counts).min(1 << 30);
+    let blocks = Blocks {
+        at,
+        count,
+        counts,
+        next,
+        reach,
+    };
+    let missing = count_missing(depot, file, &blocks)?;
+    Ok(reach.saturating_sub(next).saturating_sub(missing))
+}
+
+/// What an image of the form is, and its header.
+pub fn look<D: Depot>(
+    alloc: Global,
+    depot: &mut D,
+    file: FileNo,
+) -> Result<(Toy, Header), NotLooked>
+    requires given { file.0 < (D.world depot.old).given }
+    ensures looked { IfOk result (λ found. IsLooked found.0 found.1 file (D.world depot.old)) }
+    ensures not { IfErr result (λ why. NotLookedFor why file.0 (D.world depot.old) (D.world depot.new)) }
+    ensures run { Runs (reads_of file.0) (D.world depot.old) (D.world depot.new) }
+{
+    let header = find_header(alloc, depot, file)?;
+    let Own::Source { disk, epoch, .. } = header.own else {
+        return Err(NotLooked::Other);
+    };
+    let base = find_base(depot, file, &header.fields)?;
+    let size = header.fields.size;
+    if base > END || size > END - base || header.fields.cluster_bits > 21 {
+        return Err(NotLooked::Other);
+    }
+    let cluster = 1u64 << header.fields.cluster_bits;
+    let room = find_room(depot, file, &header.fields, (base + size).div_ceil(cluster))?;
+    let mut id = Vec::new(alloc);
+    id.extend_from_slice(&disk)?;
+    let toy = Toy {
+        file,
+        id: Name { items: id },
+        epoch,
+        base,
+        size,
+        cluster,
+        room,
+        event: 0,
+        broken: None,
+    };
+    Ok((toy, header))
+}
+
+/// The header's sector, with the next epoch.
+pub fn head(header: Header) -> [u8; 512]
+    ensures { HasNextEpoch header result }
+{
+    let mut next = header;
+    if let Own::Source {
+        disk,
+        epoch,
+        spans_offset,
+        spans_length,
+    } = next.own
+    {
+        next.own = Own::Source {
+            disk,
+            epoch: epoch.saturating_add(1),
+            spans_offset,
+            spans_length,
+        };
+    }
+    let mut sector = [0; 512];
+    write_header(&next, &mut sector);
+    sector
+}
