@@ -214,10 +214,13 @@ changed_writable part h own file small of s =
       own = of;
     }
 
-pub spelled_writable : (part : Part) (h : Header) (file : List ℕ) → IsSmall h → Spells part file h → IsWritable part h
-spelled_writable part h file small s =
+pub spelled_own : (part : Part) (h : Header) (file : List ℕ) → Spells part file h → IsOwnOf part h.own
+spelled_own part h file s =
     let rules = all_pass (extension_rules part file (fields_of file) s.extensions) s.rules in
-    changed_writable part h h.own file small (subst (IsOwnOf part) (sym s.own) (own_well part file (first_of_kind own_kind s.extensions) rules.1.1.1.1.0)) s
+    subst (IsOwnOf part) (sym s.own) (own_well part file (first_of_kind own_kind s.extensions) rules.1.1.1.1.0)
+
+pub spelled_writable : (part : Part) (h : Header) (file : List ℕ) → IsSmall h → Spells part file h → IsWritable part h
+spelled_writable part h file small s = changed_writable part h h.own file small (spelled_own part h file s) s
 
 -- with the own extension of a disk it has room in a sector
 own_of_source : (own : Own) → IsOwnOf parts.Source own → length (own_bytes own) ≤ 48

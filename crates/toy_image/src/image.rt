@@ -1,19 +1,23 @@
 //! What an image of the form is, and its first sector with the next epoch.
 
-ghost use Rattle.std.specs.Prelude.{◌≡◌, ◌+◌, ◌*◌, ◌^◌, ◌<◌, ◌≤◌, IsTrue, IfOk, IfErr};
+ghost use Rattle.std.specs.Prelude.{◌≡◌, ◌+◌, ◌*◌, ◌^◌, ◌<◌, ◌≤◌, ℕ, Ok, Some, MatchOption, IsTrue, IfOk, IfErr};
+ghost use Rattle.disk_model.specs.Files.{reading};
 ghost use Rattle.disk_model.specs.World.{World, Runs, reads_of};
 ghost use Rattle.file_device.specs.File.{file_of, Gives};
 ghost use Rattle.file_device.specs.Calls.{Looks};
+ghost use Rattle.qc_layout.specs.declared.entry.L2Entry.TheVariants as entries;
+ghost use Rattle.qc_layout.specs.Entries.{l1_of, l2_of};
 ghost use Rattle.qc_layout.specs.Header.{fields_of};
 ghost use Rattle.qc_layout.specs.Spelling.{Spells};
 ghost use Rattle.qc_layout.specs.Room.{room_from};
 ghost use Rattle.qc_layout.specs.declared.header.Part.TheVariants as parts;
-ghost use Rattle.toy_core.specs.Image.{Numbers, Opens, IsImageOf, IsLooked, NotLookedFor, HasNextEpoch, is_missing_in, missing_in};
-ghost use Rattle.toy_core.specs.declared.image.NotLooked.TheVariants as unlooked;
+ghost use Rattle.toy_image.specs.Images.{Opens, IsImageOf, IsLooked, NotLookedFor, HasNextEpoch, is_missing_in, missing_in};
+ghost use Rattle.toy_image.specs.declared.numbers.Numbers.{Numbers};
+ghost use Rattle.toy_image.specs.declared.image.NotLooked.TheVariants as unlooked;
 
-use crate::toy::Toy;
+use crate::numbers::Numbers;
 use disk_model::{Depot, Failed, FileNo};
-use file_device::{read, word};
+use file_device::word;
 use qc_layout::{
     Fields, Header, HeaderFault, L2Entry, Own, Part, read_header, read_l1, read_l2, write_header,
 };
@@ -21,7 +25,7 @@ use span_algebra::Name;
 use std::alloc::{AllocError, AllocFailed, Global};
 
 /// How many of a file's first bytes say what its header says, at most.
-const START: usize = 65536;
+const START: u64 = 65536;
 
 /// No range ends past this place.
 const END: u64 = 1 << 62;
@@ -61,6 +65,24 @@ impl From<Failed> for NotLooked {
     }
 }
 
+/// The first bytes of a file, with zeros past its end.
+fn read_start<D: Depot>(
+    alloc: Global,
+    depot: &mut D,
+    file: FileNo,
+    count: u64,
+) -> Result<Vec<u8>, NotLooked>
+    requires given { file.0 < (D.world depot.old).given }
+    requires count { count ≤ 65536 }
+    ensures bytes { IfOk result (λ v. IsTrue (D.world depot.old).tells → v.items ≡ reading ((D.world depot.old).seen file.0) 0 count) }
+    ensures not { IfErr result (λ why. NotLookedFor why file.0 (D.world depot.old) (D.world depot.new)) }
+    ensures run { Runs (reads_of file.0) (D.world depot.old) (D.world depot.new) }
+{
+    let mut bytes = vec![in alloc; 0u8; count as usize]?;
+    depot.read_at(file, 0, &mut bytes)?;
+    Ok(bytes)
+}
+
 /// The header of a file.
 fn find_header<D: Depot>(alloc: Global, depot: &mut D, file: FileNo) -> Result<Header, NotLooked>
     requires { file.0 < (D.world depot.old).given }
@@ -68,12 +90,39 @@ fn find_header<D: Depot>(alloc: Global, depot: &mut D, file: FileNo) -> Result<H
     ensures not { IfErr result (λ why. NotLookedFor why file.0 (D.world depot.old) (D.world depot.new)) }
     ensures run { Runs (reads_of file.0) (D.world depot.old) (D.world depot.new) }
 {
-    let mut bytes = vec![in alloc; 0u8; START]?;
-    read(depot, file, 0, &mut bytes)?;
+    let bytes = read_start(alloc, depot, file, START)?;
     match read_header(alloc, &bytes, Part::Source) {
         Ok(header) => Ok(header),
         Err(HeaderFault::Memory) => Err(NotLooked::Memory),
         Err(_) => Err(NotLooked::Other),
+    }
+}
+
+/// The table that an entry of the first level names.
+fn table_in(entry: u64, cluster_bits: u32) -> Option<u64>
+    requires low { 9 ≤ cluster_bits }
+    requires high { cluster_bits ≤ 21 }
+    ensures { MatchOption result ((table : ℕ) → l1_of cluster_bits entry ≡ Ok (Some table) → ⊥) (λ table. l1_of cluster_bits entry ≡ Ok (Some table)) }
+{
+    match read_l1(entry, cluster_bits) {
+        Ok(Some(table)) => Some(table),
+        Ok(None) => None,
+        Err(_) => None,
+    }
+}
+
+/// The cluster that an entry of the second level names as stored.
+fn host_in(entry: u64, cluster_bits: u32) -> Option<u64>
+    requires low { 9 ≤ cluster_bits }
+    requires high { cluster_bits ≤ 21 }
+    ensures { MatchOption result ((host : ℕ) → l2_of cluster_bits entry ≡ Ok (entries.Stored host) → ⊥) (λ host. l2_of cluster_bits entry ≡ Ok (entries.Stored host)) }
+{
+    match read_l2(entry, cluster_bits) {
+        Ok(L2Entry::Stored(host)) => Some(host),
+        Ok(L2Entry::Hole) => None,
+        Ok(L2Entry::Zero(_)) => None,
+        Ok(L2Entry::Compressed) => None,
+        Err(_) => None,
     }
 }
 
@@ -90,13 +139,13 @@ fn find_base<D: Depot>(depot: &mut D, file: FileNo, fields: &Fields) -> Result<u
         return Err(NotLooked::Other);
     }
     let first = word(depot, file, fields.l1_table_offset)?;
-    let Ok(Some(table)) = read_l1(first, bits) else {
+    let Some(table) = table_in(first, bits) else {
         return Err(NotLooked::Other);
     };
     let second = word(depot, file, table)?;
-    match read_l2(second, bits) {
-        Ok(L2Entry::Stored(host)) => Ok(host),
-        _ => Err(NotLooked::Other),
+    match host_in(second, bits) {
+        Some(host) => Ok(host),
+        None => Err(NotLooked::Other),
     }
 }
 
@@ -192,9 +241,9 @@ pub fn look<D: Depot>(
     alloc: Global,
     depot: &mut D,
     file: FileNo,
-) -> Result<(Toy, Header), NotLooked>
+) -> Result<(Numbers, Header), NotLooked>
     requires given { file.0 < (D.world depot.old).given }
-    ensures looked { IfOk result (λ found. IsLooked found.0 found.1 file (D.world depot.old)) }
+    ensures looked { IfOk result (λ found. IsLooked found.0 found.1 ((D.world depot.old).tells) ((D.world depot.old).seen file.0)) }
     ensures not { IfErr result (λ why. NotLookedFor why file.0 (D.world depot.old) (D.world depot.new)) }
     ensures run { Runs (reads_of file.0) (D.world depot.old) (D.world depot.new) }
 {
@@ -211,18 +260,15 @@ pub fn look<D: Depot>(
     let room = find_room(depot, file, &header.fields, (base + size).div_ceil(cluster))?;
     let mut id = Vec::new(alloc);
     id.extend_from_slice(&disk)?;
-    let toy = Toy {
-        file,
+    let numbers = Numbers {
         id: Name { items: id },
         epoch,
         base,
         size,
         cluster,
         room,
-        event: 0,
-        broken: None,
     };
-    Ok((toy, header))
+    Ok((numbers, header))
 }
 
 /// The header's sector, with the next epoch.

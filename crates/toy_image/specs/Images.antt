@@ -3,7 +3,6 @@ use Rattle.std.specs.Prelude.{◌≡◌, ◌⊎◌, ℕ, ◌+◌, ◌-◌, ◌*�
 use Rattle.std.specs.List.{range_with_len, count_by}
 use Rattle.disk_model.specs.Files.{byte, reading, overlay, u64_at}
 use Rattle.disk_model.specs.World.{World, FileFailed}
-use Rattle.disk_model.specs.declared.depot.FileNo.{FileNo}
 use Rattle.bitmap_model.specs.Bitmap.{StoredBitmap}
 use Rattle.bitmap_model.specs.Granules.{granules_in}
 use Rattle.qc_layout.specs.declared.entry.L2Entry.TheVariants as entries
@@ -17,26 +16,14 @@ use Rattle.qc_layout.specs.Spelling.{Spells}
 use Rattle.qc_layout.specs.Room.{HasRoom, IsFreeFrom}
 use Rattle.plain_model.specs.Space.{Store, Data, IsShapedStore, entries_in}
 use Rattle.core_node.specs.Files.{IsSourceOf}
-use Rattle.toy_core.specs.declared.toy.Toy.{Toy}
-use Rattle.toy_core.specs.declared.image.Blocks.{Blocks}
-use Rattle.toy_core.specs.declared.image.NotLooked.{NotLooked}
-use Rattle.toy_core.specs.declared.image.NotLooked.TheVariants as unlooked
+use Rattle.toy_image.specs.declared.numbers.Numbers.{Numbers}
+use Rattle.toy_image.specs.declared.image.Blocks.{Blocks}
+use Rattle.toy_image.specs.declared.image.NotLooked.{NotLooked}
+use Rattle.toy_image.specs.declared.image.NotLooked.TheVariants as unlooked
 
 -- no image of this form stores a bitmap
 abbrev pub no_bitmaps : List ℕ → List StoredBitmap
 no_bitmaps file = []
-
--- its id and epoch, where the guest's bytes begin and how many there are, and its clusters and their room
-pub record Numbers : Type 0 where
-  pub id : List ℕ
-  pub epoch : ℕ
-  pub base : ℕ
-  pub size : ℕ
-  pub cluster : ℕ
-  pub room : ℕ
-
-abbrev pub numbers_of : Toy → Numbers
-numbers_of t = record { id = t.id; epoch = t.epoch; base = t.base; size = t.size; cluster = t.cluster; room = t.room }
 
 -- each cluster is Data, each table is there
 abbrev pub store_of : Numbers → Store
@@ -117,13 +104,11 @@ pub record Opens (file : List ℕ) : Type 0 where
   pub numbers : Numbers
   pub is : IsImageOf numbers file
 
--- Where files are told, the toy has the numbers of the image, whose header this is. It has just begun.
-pub record IsLooked (t : Toy) (header : Header) (file : FileNo) (w : World) : Type 0 where
-  pub file_is : t.file ≡ file
-  pub event_is : t.event ≡ 0
-  pub broken_is : t.broken ≡ None
-  pub image : IsTrue w.tells → Opens (w.seen file.0) → IsImageOf (numbers_of t) (w.seen file.0)
-  pub spelled : IsTrue w.tells → Opens (w.seen file.0) → Spells parts.Source (w.seen file.0) header
+-- Where files are told and this is an image of the form, these are its numbers and its header.
+pub record IsLooked (n : Numbers) (header : Header) (tells : Bool) (file : List ℕ) : Type 0 where
+  pub near : n.base + n.size ≤ 2 ^ 62
+  pub image : IsTrue tells → Opens file → IsImageOf n file
+  pub spelled : IsTrue tells → Opens file → Spells parts.Source file header
 
 -- Why the numbers aren't known: the file is of another form, a call on it failed, or there was no memory.
 abbrev pub NotLookedFor : NotLooked → ℕ → World → World → Type 0
