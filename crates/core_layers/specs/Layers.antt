@@ -1,0 +1,97 @@
+-- What the layers below export, over bytes alone: no history is named here.
+use Rattle.std.specs.Prelude.{◌≡◌, ◌⊎◌, ℕ, ◌*◌, List, [], ◌∷◌, ◌++◌, length, false, IsTrue, All, Contains}
+use Rattle.disk_model.specs.Files.{overlay}
+use Rattle.disk_model.specs.World.{World, EachSince, Holds}
+use Rattle.span_algebra.specs.declared.points.Point.{Point}
+use Rattle.span_algebra.specs.declared.spans.Base.{Base}
+use Rattle.bitmap_model.specs.Bitmap.{StoredBitmap}
+use Rattle.qc_layout.specs.Records.{record_of}
+use Rattle.qc_layout.specs.Room.{HasRoom}
+use Rattle.plain_model.specs.History.{History, IsHistory, Wrote, now, timeline_of, with_entry}
+use Rattle.plain_model.specs.Space.{Store, IsShapedStore, is_data, kind_at}
+use Rattle.plain_model.specs.Records.{Backup, Sealed}
+use Rattle.plain_model.specs.Lawful.{IsTrueEntry, IsOfEpoch, Kept}
+use Rattle.plain_model.specs.Step.{IsTorn}
+use Rattle.core_node.specs.Rest.{Directory, Mixes, marked, IsReady, IsSafe}
+use Rattle.core_node.specs.Files.{IsLawfulTarget, IsSourceOf, IsBackupFile, IsBackupOf, is_blank}
+use Rattle.core_node.specs.Ends.{HasShape}
+
+-- ---- the source
+
+-- A source in order: it passes the rules of an opening, stands for this disk, in whole sectors, and its epoch and what it stores of bitmaps
+-- are these, in shape.
+pub record IsInOrder (stored : List ℕ → List StoredBitmap) (id : List ℕ) (d : Directory) (disk file : List ℕ) : Type 0 where
+  pub store : Store
+  pub source : IsSourceOf file disk id d.epoch store
+  pub room : HasRoom file store.room
+  pub sectors : ℕ
+  pub whole : length disk ≡ sectors * 512
+  pub entries_are : stored file ≡ d.entries
+  pub shape : HasShape (length disk) d.entries
+  pub store_shape : IsShapedStore (length disk) store
+
+-- none of its bitmaps can be trusted
+abbrev pub NoneTrusted : Directory → Type 0
+NoneTrusted d = (e : StoredBitmap) → Contains d.entries e → IsTrue e.trusted → ⊥
+
+-- A crash within a session leaves this: a source in order, each sector of its disk that of one of these disks, with its bitmaps in use.
+pub record IsMixed (stored : List ℕ → List StoredBitmap) (id : List ℕ) (d : Directory) (mixed : List (List ℕ)) (file : List ℕ) : Type 0 where
+  pub disk : List ℕ
+  pub kept : Kept mixed disk
+  pub in_order : IsInOrder stored id d disk file
+  pub in_use : NoneTrusted d
+
+-- What a write of the source leads to, whatever it answered: its range reads so now, and a crash may mix that disk too.
+pub record WritesDisk (stored : List ℕ → List StoredBitmap) (file : ℕ) (id : List ℕ) (d : Directory) (at : ℕ) (bytes left disk : List ℕ) (mixed : List (List ℕ)) (holds : List ℕ → List (List ℕ) → Type 0) (old new : World) : Type 0 where
+  pub torn : IsTorn disk at bytes left
+  pub since : EachSince new old.now file (IsMixed stored id d (mixed ++ overlay disk at left ∷ []))
+  pub after : holds (overlay disk at left) (mixed ++ overlay disk at left ∷ [])
+
+-- A closing may store this directory in a session's place: no point is of a later epoch, and its bitmaps say true things where they can be trusted.
+pub record MayClose (d closing : Directory) (h : History) (mixed : List (List ℕ)) : Type 0 where
+  pub history_is : IsHistory h
+  pub mixes : Mixes h mixed
+  pub epochs : All (IsOfEpoch d.epoch) (timeline_of h).entries
+  pub later : All (IsOfEpoch closing.epoch) (timeline_of h).entries
+  pub none : NoneTrusted d
+  pub truths : All (λ (e : StoredBitmap). IsTrue e.trusted → IsTrueEntry h e) closing.entries
+
+-- What an opening leaves from its first sync on, and in reads: the very disk, with the directory as it was, or marked.
+abbrev pub IsFound : (List ℕ → List StoredBitmap) → List ℕ → Directory → List ℕ → List ℕ → Type 0
+IsFound stored id d disk file = IsInOrder stored id d disk file ⊎ IsInOrder stored id (marked d) disk file
+
+-- ---- a target
+
+-- a backup file in order that claims nothing: its record is blank, and nothing is present, or it was begun
+pub record ClaimsNothing (file : List ℕ) : Type 0 where
+  pub bytes : List ℕ
+  pub store : Store
+  pub in_order : IsBackupFile file bytes store
+  pub empty : (others : List ℕ) (other : Store) (n : ℕ) → IsBackupFile file others other → IsTrue (is_blank (record_of others).state) → is_data (kind_at other n) ≡ false
+  pub unsealed : (b : Backup) → IsBackupOf file b → (base : Base) (p : Point) → b.state ≡ Sealed base p → ⊥
+
+-- a backup file in order, that reads as this sealed one and as no other
+pub record IsSealedFile (sealed : Backup) (file : List ℕ) : Type 0 where
+  pub bytes : List ℕ
+  pub store : Store
+  pub in_order : IsBackupFile file bytes store
+  pub not_blank : (others : List ℕ) (other : Store) → IsBackupFile file others other → IsTrue (is_blank (record_of others).state) → ⊥
+  pub reads : IsBackupOf file sealed
+  pub alone : (b : Backup) → length b.content ≡ b.size → IsBackupOf file b → b ≡ sealed
+
+-- ---- an event, as the core sees it
+
+-- A guest's write, over a source and the target of a job: each crash within it leaves both lawful for the history before it, and each crash after
+-- it for the history that has the bytes that the range reads now. What both layers know of their files goes on.
+pub record CarriesWrite (stored : List ℕ → List StoredBitmap) (source target : ℕ) (id : List ℕ) (d : Directory) (at : ℕ) (bytes : List ℕ) (well : Type 0) (h : History) (mixed : List (List ℕ))
+    (holds : List ℕ → List (List ℕ) → Type 0) (claims : Type 0) (old new : World) : Type 0 where
+  pub left : List ℕ
+  pub whole : well → left ≡ bytes
+  pub torn : IsTorn (now h) at bytes left
+  pub crashes : EachSince new old.now source (IsSafe stored (d ∷ []) id h (mixed ++ now (with_entry h (Wrote at left)) ∷ []))
+  pub holds_on : holds (now (with_entry h (Wrote at left))) (mixed ++ now (with_entry h (Wrote at left)) ∷ [])
+  pub safe : Holds source (IsReady stored (d ∷ []) id (with_entry h (Wrote at left))) (IsSafe stored (d ∷ []) id (with_entry h (Wrote at left)) (mixed ++ now (with_entry h (Wrote at left)) ∷ [])) new
+  pub history_is : IsHistory (with_entry h (Wrote at left))
+  pub target_crashes : EachSince new old.now target (IsLawfulTarget id h)
+  pub target_claims : claims
+  pub target_holds : Holds target (IsLawfulTarget id (with_entry h (Wrote at left))) (IsLawfulTarget id (with_entry h (Wrote at left))) new

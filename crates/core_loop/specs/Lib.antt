@@ -1,0 +1,4 @@
+pub mod Course
+pub mod Sessions
+pub mod Crashes
+pub mod Laws

@@ -1,0 +1,43 @@
+//! Laws of the definitions. Each function does nothing; its contract is the law.
+
+ghost use Rattle.core_loop.specs.Laws.{ChainsAtRestGiveDisks, OpeningLeads, SourcesBegin, OneKind, EioNeedsFaults, AnswersComeAfter, DroppedIsNotSafe, ClosedKeepsBitmaps};
+
+/// Chains of files at rest give the disk at their last point.
+pub fn chains_at_rest_give_disks()
+    ensures { ChainsAtRestGiveDisks }
+{}
+
+/// An opening that syncs first leads from rest to rest.
+pub fn opening_leads()
+    ensures { OpeningLeads }
+{}
+
+/// A new source is at rest.
+pub fn sources_begin()
+    ensures { SourcesBegin }
+{}
+
+/// No file is both a source and a backup.
+pub fn one_kind()
+    ensures { OneKind }
+{}
+
+/// A read or write is answered with EIO only where a call failed within it.
+pub fn eio_needs_faults()
+    ensures { EioNeedsFaults }
+{}
+
+/// An answer is told after its event was carried out.
+pub fn answers_come_after()
+    ensures { AnswersComeAfter }
+{}
+
+/// What dropped a stored bitmap isn't safe.
+pub fn dropped_is_not_safe()
+    ensures { DroppedIsNotSafe }
+{}
+
+/// After a closing that was answered no crash drops its bitmaps.
+pub fn closed_keeps_bitmaps()
+    ensures { ClosedKeepsBitmaps }
+{}
