@@ -86,6 +86,7 @@ pub record AreBehind (h : Fields) : Type 0 where
   pub some : 0 < h.size
   pub firsts : 512 ≤ h.l1_table_offset
   pub counts : 512 ≤ h.refcount_table_offset
+  pub table : 0 < h.refcount_table_clusters
   pub few : h.refcount_table_clusters * 2 ^ h.cluster_bits ≤ 2 ^ 26
 
 place_past : (bits offset : ℕ) → 9 ≤ bits → is_place bits offset ≡ true → 512 ≤ offset
@@ -101,6 +102,7 @@ place_past bits offset low is =
 record TablesPass (h : Fields) : Type 0 where
   firsts : is_place h.cluster_bits h.l1_table_offset ≡ true
   counts : is_place h.cluster_bits h.refcount_table_offset ≡ true
+  table : 0 < h.refcount_table_clusters
   few : h.refcount_table_clusters * 2 ^ h.cluster_bits ≤ 2 ^ 26
 
 tables_pass : (h : Fields) → first_of (table_rules h) ≡ None → TablesPass h
@@ -118,5 +120,6 @@ are_behind part length h none =
       some = size_some length h (none_left (first_of (form_rules length h)) (or_else (first_of (feature_rules part h)) (first_of (table_rules h))) none);
       firsts = place_past h.cluster_bits h.l1_table_offset bits passed.firsts;
       counts = place_past h.cluster_bits h.refcount_table_offset bits passed.counts;
+      table = passed.table;
       few = passed.few;
     }

@@ -47,7 +47,7 @@ module _ (header : Header) (file written id : List ℕ) (epoch offset long : ℕ
 -- ---- an image under it
 
 -- two headers that a file spells have one extension of this project's own
-one_own : (file : List ℕ) (h g : Header) → Spells parts.Source file h → Spells parts.Source file g → h.own ≡ g.own
+pub one_own : (file : List ℕ) (h g : Header) → Spells parts.Source file h → Spells parts.Source file g → h.own ≡ g.own
 one_own file h g x y = x.own ∙ ap (λ es. own_in file (first_of_kind own_kind es)) (one_in file x.extensions y.extensions x.listed y.listed) ∙ sym y.own
 
 module _ (n : Numbers) (disk file sector : List ℕ) (image : IsImage n disk file) (size : length sector ≡ 512) (offset long : ℕ) (header : Header) (spelled : Spells parts.Source file header)

@@ -1,5 +1,5 @@
 -- Images without holes and bitmaps, whose guest bytes stand in one run of the file.
-use Rattle.std.specs.Prelude.{◌≡◌, ◌⊎◌, ℕ, ◌+◌, ◌-◌, ◌*◌, ◌/◌, ◌%◌, ◌^◌, ◌<◌, ◌≤◌, ◌==◌, ◌&&◌, nat_lt, List, [], length, replicate, Bool, true, Some, None, Ok, Contains, IsTrue}
+use Rattle.std.specs.Prelude.{◌≡◌, ◌≢◌, ◌⊎◌, ℕ, ◌+◌, ◌-◌, ◌*◌, ◌/◌, ◌%◌, ◌^◌, ◌<◌, ◌≤◌, ◌==◌, ◌&&◌, nat_lt, List, [], length, replicate, Bool, true, Some, None, Ok, Contains, IsTrue}
 use Rattle.std.specs.List.{range_with_len, count_by}
 use Rattle.disk_model.specs.Files.{byte, reading, overlay, u64_at}
 use Rattle.disk_model.specs.World.{World, FileFailed}
@@ -9,6 +9,8 @@ use Rattle.qc_layout.specs.declared.entry.L2Entry.TheVariants as entries
 use Rattle.qc_layout.specs.Disks.{Tight, entry_at, table_at, bits_of, blocks_in, block_at, counts_in, words_in}
 use Rattle.qc_layout.specs.Header.{fields_of}
 use Rattle.qc_layout.specs.declared.header.Header.{Header}
+use Rattle.qc_layout.specs.declared.header.HeaderFault.{HeaderFault}
+use Rattle.qc_layout.specs.declared.header.HeaderFault.TheVariants as faults
 use Rattle.qc_layout.specs.declared.header.Own.TheVariants as owns
 use Rattle.qc_layout.specs.declared.header.Part.TheVariants as parts
 use Rattle.qc_layout.specs.Laws.{start_length}
@@ -115,6 +117,12 @@ abbrev pub NotLookedFor : NotLooked → ℕ → World → World → Type 0
 NotLookedFor unlooked.Other f old new = IsTrue old.tells → Opens (old.seen f) → ⊥
 NotLookedFor unlooked.Failed f old new = FileFailed f old new
 NotLookedFor unlooked.Memory f old new = Unit {0}
+
+-- a header is of another form for each fault but want of memory
+abbrev pub IsRefusal : NotLooked → HeaderFault → Type 0
+IsRefusal unlooked.Other fault = fault ≢ faults.Memory
+IsRefusal unlooked.Failed fault = ⊥
+IsRefusal unlooked.Memory fault = Unit {0}
 
 -- ---- the next epoch
 

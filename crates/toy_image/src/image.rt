@@ -1,17 +1,16 @@
 //! What an image of the form is, and its first sector with the next epoch.
 
-ghost use Rattle.std.specs.Prelude.{◌≡◌, ◌+◌, ◌*◌, ◌^◌, ◌<◌, ◌≤◌, ℕ, Ok, Some, MatchOption, IsTrue, IfOk, IfErr};
+ghost use Rattle.std.specs.Prelude.{◌≡◌, ◌+◌, ◌-◌, ◌*◌, ◌^◌, ◌<◌, ◌≤◌, ◌/◌, ◌==◌, ◌&&◌, nat_lt, ℕ, List, Ok, Some, MatchOption, IsTrue, IfOk, IfErr};
 ghost use Rattle.disk_model.specs.Files.{reading};
 ghost use Rattle.disk_model.specs.World.{World, Runs, reads_of};
-ghost use Rattle.file_device.specs.File.{file_of, Gives};
-ghost use Rattle.file_device.specs.Calls.{Looks};
 ghost use Rattle.qc_layout.specs.declared.entry.L2Entry.TheVariants as entries;
 ghost use Rattle.qc_layout.specs.Entries.{l1_of, l2_of};
 ghost use Rattle.qc_layout.specs.Header.{fields_of};
 ghost use Rattle.qc_layout.specs.Spelling.{Spells};
 ghost use Rattle.qc_layout.specs.Room.{room_from};
+ghost use Rattle.qc_layout.specs.declared.header.Own.TheVariants as owns;
 ghost use Rattle.qc_layout.specs.declared.header.Part.TheVariants as parts;
-ghost use Rattle.toy_image.specs.Images.{Opens, IsImageOf, IsLooked, NotLookedFor, HasNextEpoch, is_missing_in, missing_in};
+ghost use Rattle.toy_image.specs.Images.{Opens, IsImageOf, IsLooked, NotLookedFor, IsRefusal, HasNextEpoch, is_missing_in, missing_in};
 ghost use Rattle.toy_image.specs.declared.numbers.Numbers.{Numbers};
 ghost use Rattle.toy_image.specs.declared.image.NotLooked.TheVariants as unlooked;
 
@@ -83,6 +82,16 @@ fn read_start<D: Depot>(
     Ok(bytes)
 }
 
+/// Why it isn't known what an image is whose header is refused.
+fn refusal(fault: HeaderFault) -> NotLooked
+    ensures { IsRefusal result fault }
+{
+    match fault {
+        HeaderFault::Memory => NotLooked::Memory,
+        _ => NotLooked::Other,
+    }
+}
+
 /// The header of a file.
 fn find_header<D: Depot>(alloc: Global, depot: &mut D, file: FileNo) -> Result<Header, NotLooked>
     requires { file.0 < (D.world depot.old).given }
@@ -93,8 +102,7 @@ fn find_header<D: Depot>(alloc: Global, depot: &mut D, file: FileNo) -> Result<H
     let bytes = read_start(alloc, depot, file, START)?;
     match read_header(alloc, &bytes, Part::Source) {
         Ok(header) => Ok(header),
-        Err(HeaderFault::Memory) => Err(NotLooked::Memory),
-        Err(_) => Err(NotLooked::Other),
+        Err(fault) => Err(refusal(fault)),
     }
 }
 
@@ -139,8 +147,9 @@ fn find_base<D: Depot>(depot: &mut D, file: FileNo, fields: &Fields) -> Result<u
         return Err(NotLooked::Other);
     }
     let first = word(depot, file, fields.l1_table_offset)?;
-    let Some(table) = table_in(first, bits) else {
-        return Err(NotLooked::Other);
+    let table = match table_in(first, bits) {
+        Some(table) => table,
+        None => return Err(NotLooked::Other),
     };
     let second = word(depot, file, table)?;
     match host_in(second, bits) {
@@ -160,21 +169,32 @@ struct Blocks {
     reach: u64,
 }
 
+/// Whether the entry names no block, and the block would count a cluster between the two.
+fn misses(blocks: &Blocks, i: u64, entry: u64) -> bool
+    requires few { i < 2 ^ 62 }
+    requires near { (i + 1) * blocks.now.counts < 2 ^ 64 }
+    ensures { result ≡ ((entry / 512 == 0) && (nat_lt blocks.now.next ((i + 1) * blocks.now.counts) && nat_lt (i * blocks.now.counts) blocks.now.reach)) }
+{
+    entry / 512 == 0 && blocks.next < (i + 1) * blocks.counts && i * blocks.counts < blocks.reach
+}
+
 /// Whether a block is missing that counts a cluster between the two.
 fn is_missing<D: Depot>(
     depot: &mut D,
     file: FileNo,
     blocks: &Blocks,
     i: u64,
-) -> Result<bool, Failed>
+) -> Result<bool, NotLooked>
     requires given { file.0 < (D.world depot.old).given }
     requires end { blocks.now.at + 8 * i + 8 ≤ 2 ^ 62 }
+    requires few { i < 2 ^ 62 }
     requires near { (i + 1) * blocks.now.counts < 2 ^ 64 }
-    ensures missing { IfOk result (λ missing. Gives (file_of (D.world depot.old) file.0) (λ c. missing ≡ is_missing_in c blocks.now i)) }
-    ensures looks { Looks file.0 (D.world depot.old) (D.world depot.new) result }
+    ensures missing { IfOk result (λ missing. IsTrue (D.world depot.old).tells → missing ≡ is_missing_in ((D.world depot.old).seen file.0) blocks.now i) }
+    ensures not { IfErr result (λ why. NotLookedFor why file.0 (D.world depot.old) (D.world depot.new)) }
+    ensures run { Runs (reads_of file.0) (D.world depot.old) (D.world depot.new) }
 {
     let entry = word(depot, file, blocks.at + 8 * i)?;
-    Ok(entry / 512 == 0 && blocks.next < (i + 1) * blocks.counts && i * blocks.counts < blocks.reach)
+    Ok(misses(blocks, i, entry))
 }
 
 /// How many blocks are missing that count a cluster between the two.
@@ -182,13 +202,14 @@ fn count_missing<D: Depot>(
     depot: &mut D,
     file: FileNo,
     blocks: &Blocks,
-) -> Result<u64, Failed>
+) -> Result<u64, NotLooked>
     requires given { file.0 < (D.world depot.old).given }
     requires end { blocks.now.at + 8 * blocks.now.count ≤ 2 ^ 62 }
     requires near { (blocks.now.count + 1) * blocks.now.counts < 2 ^ 64 }
     requires few { blocks.now.count < 2 ^ 62 }
-    ensures missing { IfOk result (λ missing. Gives (file_of (D.world depot.old) file.0) (λ c. missing ≡ missing_in c blocks.now)) }
-    ensures looks { Looks file.0 (D.world depot.old) (D.world depot.new) result }
+    ensures missing { IfOk result (λ missing. IsTrue (D.world depot.old).tells → missing ≡ missing_in ((D.world depot.old).seen file.0) blocks.now) }
+    ensures not { IfErr result (λ why. NotLookedFor why file.0 (D.world depot.old) (D.world depot.new)) }
+    ensures run { Runs (reads_of file.0) (D.world depot.old) (D.world depot.new) }
 {
     let mut missing = 0;
     for i in 0..blocks.count {
@@ -222,9 +243,9 @@ fn find_room<D: Depot>(
     if long > 1 << 26 || at > END - long {
         return Err(NotLooked::Other);
     }
-    let counts = cluster / 2;
     let count = u64::from(fields.refcount_table_clusters) * (cluster / 8);
-    let reach = (count * counts).min(1 << 30);
+    let counts = cluster / 2;
+    let reach = (1u64 << 30).min(count * counts);
     let blocks = Blocks {
         at,
         count,
@@ -248,8 +269,10 @@ pub fn look<D: Depot>(
     ensures run { Runs (reads_of file.0) (D.world depot.old) (D.world depot.new) }
 {
     let header = find_header(alloc, depot, file)?;
-    let Own::Source { disk, epoch, .. } = header.own else {
-        return Err(NotLooked::Other);
+    let (disk, epoch) = match header.own {
+        Own::Source { disk, epoch, .. } => (disk, epoch),
+        Own::Absent => return Err(NotLooked::Other),
+        Own::Target(_) => return Err(NotLooked::Other),
     };
     let base = find_base(depot, file, &header.fields)?;
     let size = header.fields.size;
@@ -257,7 +280,11 @@ pub fn look<D: Depot>(
         return Err(NotLooked::Other);
     }
     let cluster = 1u64 << header.fields.cluster_bits;
-    let room = find_room(depot, file, &header.fields, (base + size).div_ceil(cluster))?;
+    let next = (base + size).div_ceil(cluster);
+    let room = match find_room(depot, file, &header.fields, next) {
+        Ok(room) => room,
+        Err(why) => return Err(why),
+    };
     let mut id = Vec::new(alloc);
     id.extend_from_slice(&disk)?;
     let numbers = Numbers {
@@ -271,25 +298,33 @@ pub fn look<D: Depot>(
     Ok((numbers, header))
 }
 
+/// What the extension of a disk says, with the next epoch.
+fn next_own(own: Own) -> Own
+    ensures { (id : List ℕ) (epoch offset long : ℕ) → own ≡ owns.Source id epoch offset long → epoch < 2 ^ 64 - 1 → result ≡ owns.Source id (epoch + 1) offset long }
+{
+    match own {
+        Own::Source {
+            disk,
+            epoch,
+            spans_offset,
+            spans_length,
+        } => Own::Source {
+            disk,
+            epoch: epoch.saturating_add(1),
+            spans_offset,
+            spans_length,
+        },
+        Own::Absent => Own::Absent,
+        Own::Target(record) => Own::Target(record),
+    }
+}
+
 /// The header's sector, with the next epoch.
 pub fn head(header: Header) -> [u8; 512]
     ensures { HasNextEpoch header result }
 {
     let mut next = header;
-    if let Own::Source {
-        disk,
-        epoch,
-        spans_offset,
-        spans_length,
-    } = next.own
-    {
-        next.own = Own::Source {
-            disk,
-            epoch: epoch.saturating_add(1),
-            spans_offset,
-            spans_length,
-        };
-    }
+    next.own = next_own(next.own);
     let mut sector = [0; 512];
     write_header(&next, &mut sector);
     sector
