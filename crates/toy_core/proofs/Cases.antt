@@ -384,7 +384,6 @@ pub as_broke : {t : Toy} {old new : World} {event : Event} {answer : Answer} {re
 as_broke {t} {old} {new} {event} {answer} {reading} n e is steps =
     subst (λ (m : ℕ). NodeSteps no_bitmaps reading (shown t) (Keeps t old) (Keeps (moved t m (Some m)) new) old new event answer) (sym is) steps
 
-
 -- ---- denials, whatever files hold
 
 no_views : (views : List Job) → [] ≡ map shown_view views → views ≡ []

@@ -286,7 +286,7 @@ numbers_found found file header offset long opens spelled own base size cluster 
     let size_is : found.size ≡ n.size = size ∙ ap (λ (f : Fields). f.size) spelled.fields ∙ sym image.source.stands.size ∙ image.size_is in
     let cluster_is : found.cluster ≡ n.cluster = cluster ∙ ap (λ (f : Fields). 2 ^ f.cluster_bits) spelled.fields ∙ sym image.source.clusters.cluster_is in
     let room_is : found.room ≡ n.room = room ∙ ap (λ (b : ℕ). room_from file (granules_in (b + found.size) found.cluster)) base_is ∙ ap (λ (s : ℕ). room_from file (granules_in (n.base + s) found.cluster)) size_is
-        ∙ ap (λ (c : ℕ). room_from file (granules_in (n.base + n.size) c)) cluster_is ∙ sym (room_behind n file opens.is) in
+    ∙ ap (λ (c : ℕ). room_from file (granules_in (n.base + n.size) c)) cluster_is ∙ sym (room_behind n file opens.is) in
     subst (λ (m : Numbers). IsImageOf m file) (sym (numbers_are found n names.0 names.1 base_is size_is cluster_is room_is)) opens.is
 
 -- the header of such an image is that of a disk

@@ -198,11 +198,7 @@ fn is_missing<D: Depot>(
 }
 
 /// How many blocks are missing that count a cluster between the two.
-fn count_missing<D: Depot>(
-    depot: &mut D,
-    file: FileNo,
-    blocks: &Blocks,
-) -> Result<u64, NotLooked>
+fn count_missing<D: Depot>(depot: &mut D, file: FileNo, blocks: &Blocks) -> Result<u64, NotLooked>
     requires given { file.0 < (D.world depot.old).given }
     requires end { blocks.now.at + 8 * blocks.now.count ≤ 2 ^ 62 }
     requires near { (blocks.now.count + 1) * blocks.now.counts < 2 ^ 64 }
