@@ -1,2 +1,3 @@
 pub mod Rests
 pub mod Sources
+pub mod Rises
