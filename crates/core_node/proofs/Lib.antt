@@ -1,2 +1,4 @@
 pub mod Rests
 mod Refusals
+pub mod Sources
+pub mod Rises

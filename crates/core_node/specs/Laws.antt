@@ -19,7 +19,7 @@ use Rattle.core_node.specs.Files.{Reading, IsLawfulTarget}
 use Rattle.image_model.specs.Images.{IsSourceOf, IsBackupFile, IsBackupOf}
 use Rattle.core_node.specs.Standing.{Shown}
 use Rattle.core_node.specs.Rest.{Directory, State, Allows, unused, IsReady, IsSafe}
-use Rattle.core_node.specs.Step.{NodeSteps}
+use Rattle.core_node.specs.Step.{NodeSteps, EndsAtSeal}
 use Rattle.core_node.specs.Ends.{Opened, Closed}
 
 -- ---- files
@@ -80,6 +80,12 @@ SealsAreTrue {Core} reading shown keeps = (before after : Core) (old new : World
     → Holds f (IsLawfulTarget (shown before).id s.machine.history) (IsLawfulTarget (shown before).id s.machine.history) old
     → IsBackupOf (new.seen f) b → length b.content ≡ b.size → b.state ≡ Sealed base p → b.id ≡ (shown before).id
     → (next : State) × keeps after new next × StateHolds next.machine.history b (Sealed base p)
+
+-- a file that reads as sealed after an event, and wasn't so before it, is the target of a job that ended at its seal: no other end seals one
+abbrev pub SealsComeAtEnds : {Core : Type 0} → Reading → (Core → Shown) → (Core → World → State → Type 0) → Type 0
+SealsComeAtEnds {Core} reading shown keeps = (before after : Core) (old new : World) (event : Event) (answer : Answer) (s : State) (f : ℕ) (b : Backup) (base : Base) (p : Point)
+    → NodeSteps reading (shown before) (keeps before old) (keeps after new) old new event answer → keeps before old s → b.state ≡ Sealed base p
+    → IsBackupOf (new.seen f) b → (IsBackupOf (old.seen f) b → ⊥) → EndsAtSeal new s.machine answer f
 
 -- ---- closings
 

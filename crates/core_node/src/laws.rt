@@ -1,6 +1,6 @@
 //! Laws of the promises: what they refuse. Each function does nothing; its contract is the law.
 
-ghost use Rattle.core_node.specs.Laws.{OneKind, DroppedIsNotSafe, OpenedShowsId, OpenedHasBitmaps, OpenedHasRoom, OpenedKnows, StepsKnow, SealsAreTrue, ClosedStoresBitmaps, ClosedKeepsBitmaps};
+ghost use Rattle.core_node.specs.Laws.{OneKind, DroppedIsNotSafe, OpenedShowsId, OpenedHasBitmaps, OpenedHasRoom, OpenedKnows, StepsKnow, SealsAreTrue, SealsComeAtEnds, ClosedStoresBitmaps, ClosedKeepsBitmaps};
 
 use crate::node::Node;
 
@@ -42,6 +42,11 @@ pub fn steps_know<N: Node>()
 /// An event after which a target's record says a false thing isn't one.
 pub fn seals_are_true<N: Node>()
     ensures { SealsAreTrue N.reading N.shown N.keeps }
+{}
+
+/// An event after which a target reads as sealed whose job didn't end at its seal, as one that ended for want of room, isn't one.
+pub fn seals_come_at_ends<N: Node>()
+    ensures { SealsComeAtEnds N.reading N.shown N.keeps }
 {}
 
 /// A closing that leaves a persistent bitmap out isn't one.
