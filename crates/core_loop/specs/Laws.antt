@@ -1,6 +1,6 @@
 -- The laws, as statements.
-use Rattle.std.specs.Prelude.{◌≡◌, ◌⊎◌, ℕ, ◌+◌, ◌-◌, ◌*◌, ◌^◌, ◌<◌, ◌≤◌, List, [], ◌∷◌, ◌++◌, length, take, Some, None, IsTrue}
-use Rattle.disk_model.specs.World.{World, EachNow, EachSince, Holds}
+use Rattle.std.specs.Prelude.{◌≡◌, ◌⊎◌, ℕ, ◌+◌, ◌-◌, ◌*◌, ◌^◌, ◌<◌, ◌≤◌, List, [], ◌∷◌, ◌++◌, length, take, Some, None, IsTrue, Option}
+use Rattle.disk_model.specs.World.{World, versions, EachNow, EachSince, Holds, IsSound, IsLeftAt}
 use Rattle.bitmap_model.specs.Bitmap.{StoredBitmap}
 use Rattle.core_events.specs.Events.{Event}
 use Rattle.core_events.specs.Answers.{Answer, Fault}
@@ -39,3 +39,14 @@ EioNeedsFaults = (text : ℕ → Event → Answer → List ℕ) (source : List �
 abbrev pub AnswersComeAfter : Type 0
 AnswersComeAfter = (text : ℕ → Event → Answer → List ℕ) (source : List ℕ) (from : Cut) (move : Move) → IsMove IsHeldAs text source from move → IsTrue from.world.prints → 0 < length (text move.cut.count move.event move.answer)
     → ((n : ℕ) → move.start.printed ≡ (from.told ++ move.said) ++ take (n + 1) (text move.cut.count move.event move.answer) → ⊥) × (move.cut.world.printed ≡ from.told ++ move.said)
+
+-- ---- a program that is killed
+
+-- what reads give now of a file that is there
+abbrev pub IsSeen : World → ℕ → Option (List ℕ) → Type 0
+IsSeen w f None = versions w f ≡ []
+IsSeen w f (Some c) = (0 < length (versions w f)) × (c ≡ w.seen f)
+
+-- a program that is killed without a power failure leaves what reads give, and a crash at that moment may leave it too
+abbrev pub KilledIsACrash : Type 0
+KilledIsACrash = (w : World) (left : ℕ → Option (List ℕ)) → IsSound w → ((f : ℕ) → IsSeen w f (left f)) → IsLeftAt w w.now left

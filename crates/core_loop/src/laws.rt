@@ -1,6 +1,6 @@
 //! Laws of the definitions. Each function does nothing; its contract is the law.
 
-ghost use Rattle.core_loop.specs.Laws.{ChainsAtRestGiveDisks, OpeningLeads, SourcesBegin, EioNeedsFaults, AnswersComeAfter};
+ghost use Rattle.core_loop.specs.Laws.{ChainsAtRestGiveDisks, OpeningLeads, SourcesBegin, EioNeedsFaults, AnswersComeAfter, KilledIsACrash};
 
 /// Chains of files at rest give the disk at their last point.
 pub fn chains_at_rest_give_disks()
@@ -25,4 +25,9 @@ pub fn eio_needs_faults()
 /// An answer is told after its event was carried out.
 pub fn answers_come_after()
     ensures { AnswersComeAfter }
+{}
+
+/// What a program leaves that is killed without a power failure is what a crash may leave.
+pub fn killed_is_a_crash()
+    ensures { KilledIsACrash }
 {}
