@@ -4,6 +4,8 @@ use Rattle.std.specs.Prelude.{◌≡◌, ◌⊎◌, ℕ, ◌+◌, List, [], ◌�
 use Rattle.disk_model.specs.World.{World, Holds, Leads}
 use Rattle.span_algebra.specs.declared.points.Point.{Point}
 use Rattle.span_algebra.specs.declared.spans.Base.{Base}
+use Rattle.span_algebra.specs.declared.spans.Span.TheVariants.{Unknown}
+use Rattle.bitmap_model.specs.Granules.{cleared}
 use Rattle.bitmap_model.specs.Bitmap.{StoredBitmap}
 use Rattle.qc_layout.specs.Room.{HasRoom}
 use Rattle.qc_layout.specs.Directory.{stored_in}
@@ -33,7 +35,7 @@ directory_of o = record { epoch = o.epoch; entries = o.entries }
 
 -- what an opening makes of it: the next epoch, with all bitmaps in use
 abbrev pub unused : StoredBitmap → StoredBitmap
-unused e = record e { trusted = false }
+unused e = record { name = e.name; bits = cleared e.bits; span = Unknown; recording = false; trusted = false }
 
 abbrev pub marked : Directory → Directory
 marked d = record { epoch = d.epoch + 1; entries = map unused d.entries }
