@@ -1,2 +1,3 @@
 pub mod Rests
 mod Refusals
+pub mod Sources

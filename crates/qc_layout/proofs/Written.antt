@@ -10,7 +10,11 @@ use Rattle.std.proofs.Math.Seq.{drop-append_seam}
 use Rattle.disk_model.specs.Files.{byte, reading, u32_at}
 use Rattle.disk_model.proofs.Laws.{length-reading, byte-reading}
 use Rattle.qc_layout.specs.declared.extension.Extension.{Extension}
+use Rattle.qc_layout.specs.declared.header.DirPlace.{DirPlace}
+use Rattle.qc_layout.specs.declared.header.Own.{Own}
+use Rattle.qc_layout.specs.declared.header.Own.TheVariants as owns
 use Rattle.qc_layout.specs.declared.header.Part.{Part}
+use Rattle.qc_layout.specs.declared.header.Part.TheVariants as parts
 use Rattle.qc_layout.specs.declared.header.Fields.{Fields}
 use Rattle.qc_layout.specs.declared.header.Header.{Header}
 use Rattle.qc_layout.specs.Header.{fields_of, number_fault, first_of, has_bit}
@@ -21,7 +25,7 @@ use Rattle.qc_layout.proofs.WrittenNumbers.{fields_written, length-words}
 use Rattle.qc_layout.proofs.Words.{no_tail_bytes, tail_words, header_parts}
 use Rattle.qc_layout.proofs.Passing.{Passes, numbers_pass, plain_pass, all_pass, no_fault, passed_in}
 use Rattle.qc_layout.proofs.Blocks.{as_extensions, blocks_listed, blocks_bytes, blocks_length, blocks_others, blocks_of, are_blocks, kept_joined, kept_long}
-use Rattle.qc_layout.proofs.Heads.{in_front, own_extension, own_says, own_front, bitmaps_extension, bitmaps_say, bitmaps_front, bitmaps_there}
+use Rattle.qc_layout.proofs.Heads.{in_front, length-source, length-bitmaps, own_extension, own_says, own_front, bitmaps_extension, bitmaps_say, bitmaps_front, bitmaps_there}
 
 -- the file begins with the header's sector
 pub record BeginsWith (file : List ℕ) (h : Header) : Type 0 where
@@ -181,8 +185,9 @@ own_well part file (Some e) well =
     let long = length-reading file e.place 64 in
     search rules
 
-pub spelled_writable : (part : Part) (h : Header) (file : List ℕ) → IsSmall h → Spells part file h → IsWritable part h
-spelled_writable part h file small s =
+-- so can one whose own extension says something else
+pub changed_writable : (part : Part) (h : Header) (own : Own) (file : List ℕ) → IsSmall (record h { own = own }) → IsOwnOf part own → Spells part file h → IsWritable part (record h { own = own })
+changed_writable part h own file small of s =
     let f = fields_of file in
     let es = s.extensions in
     let passed = numbers_pass part (length file) f s.numbers in
@@ -206,8 +211,43 @@ spelled_writable part h file small s =
       room = omega (arith, ap length part_is, kept_long file es);
       bitmaps = subst (λ (g : Fields). AreBitmaps g.cluster_bits h.bitmaps) same well;
       autoclear = let a = s.fields in let b = s.bitmaps in let c = bitmaps_found_there file (first_of_kind bitmaps_kind es) in let d = rules.1.1.1.0 in cc;
-      own = subst (IsOwnOf part) (sym s.own) (own_well part file (first_of_kind own_kind es) rules.1.1.1.1.0);
+      own = of;
     }
+
+pub spelled_own : (part : Part) (h : Header) (file : List ℕ) → Spells part file h → IsOwnOf part h.own
+spelled_own part h file s =
+    let rules = all_pass (extension_rules part file (fields_of file) s.extensions) s.rules in
+    subst (IsOwnOf part) (sym s.own) (own_well part file (first_of_kind own_kind s.extensions) rules.1.1.1.1.0)
+
+pub spelled_writable : (part : Part) (h : Header) (file : List ℕ) → IsSmall h → Spells part file h → IsWritable part h
+spelled_writable part h file small s = changed_writable part h h.own file small (spelled_own part h file s) s
+
+-- with the own extension of a disk it has room in a sector
+own_of_source : (own : Own) → IsOwnOf parts.Source own → length (own_bytes own) ≤ 48
+unfolding own_bytes
+own_of_source owns.Absent of = omega arith
+own_of_source (owns.Source disk epoch spans_offset spans_length) of = omega (arith, length-source disk epoch spans_offset spans_length of)
+own_of_source (owns.Target bytes) of = absurd of
+
+bitmaps_short : (bitmaps : Option DirPlace) → length (bitmaps_bytes bitmaps) ≤ 32
+unfolding bitmaps_bytes
+bitmaps_short None = omega arith
+bitmaps_short (Some dir) = omega (arith, length-bitmaps dir)
+
+pub writable_fits : (h : Header) → IsWritable parts.Source h → Fits h
+writable_fits h w =
+    let numbers = words_bytes (number_words h.fields) in
+    let tail = tail_bytes h in
+    let own = own_bytes h.own in
+    let bitmaps = bitmaps_bytes h.bitmaps in
+    let l0 = length-words (number_words h.fields) in
+    let l1 = length-append numbers tail in
+    let l2 = length-append (numbers ++ tail) own in
+    let l3 = length-append (numbers ++ tail ++ own) bitmaps in
+    let l4 = length-append (numbers ++ tail ++ own ++ bitmaps) (kept_part h) in
+    let header = tail_long h (numbers_pass parts.Source 512 h.fields w.numbers) w.tail in
+    let room = w.room in
+    omega (arith, ap length (header_parts h), own_of_source h.own w.own, bitmaps_short h.bitmaps)
 
 -- ---- what is read from some file is read from each that begins with its sector
 

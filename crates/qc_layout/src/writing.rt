@@ -2,7 +2,7 @@
 
 ghost use Rattle.std.specs.Prelude.{◌≡◌, ◌≤◌, ◌<◌, ◌^◌, ℕ, List, length, min};
 ghost use Rattle.disk_model.specs.Files.{reading};
-ghost use Rattle.qc_layout.specs.Spelling.{Spells, Fits, sector_of, Puts, word_bytes, words_bytes, number_words, head_words, IsSmallWord, AreSmallWords, tail_bytes, own_bytes, bitmaps_bytes, tail_length, IsSmallOwn, AreSmallBitmaps};
+ghost use Rattle.qc_layout.specs.Spelling.{Spells, Fits, IsSmall, sector_of, Puts, word_bytes, words_bytes, number_words, head_words, IsSmallWord, AreSmallWords, tail_bytes, own_bytes, bitmaps_bytes, tail_length, IsSmallOwn, AreSmallBitmaps};
 ghost use Rattle.qc_layout.specs.declared.header.Part.{Part};
 
 use crate::extension::{BITMAPS_KIND, OWN_KIND};
@@ -162,6 +162,7 @@ fn put_bitmaps(out: &mut [u8; 512], at: usize, bitmaps: &Option<DirPlace>) -> us
 /// Writes a header as one sector. What doesn't fit is left out.
 pub fn write_header(header: &Header, out: &mut [u8; 512])
     ensures sector { Fits header.now → out.new ≡ sector_of header.now }
+    ensures small { IsSmall header.now }
     // A header that is read from some file is read from each file that begins with the sector.
     ensures reads_back { (part : Part) (file written : List ℕ) → Spells part file header.now → Fits header.now →
         512 ≤ length written → reading written 0 512 ≡ out.new → Spells part written header.now }

@@ -1,6 +1,6 @@
 use Rattle.std.proofs.Common.{◌-◌, ℕ, [], length, length-drop, drop, refl, ◌∙◌, ap, arith}
 use Rattle.std.proofs.lemmas.List.{take_all}
-use Rattle.qc_layout.specs.Spelling.{IsSmall, tail_length}
+use Rattle.qc_layout.specs.Spelling.{tail_length}
 use Rattle.qc_layout.proofs.Puts.{puts_on, puts_as, drop_least}
 use Rattle.qc_layout.proofs.Words.{header_parts}
 use Rattle.qc_layout.proofs.Written.{BeginsWith, written_again}
@@ -23,8 +23,11 @@ returns-clause-sector c room =
     let done = puts_as (header_parts h) steps in
     (done.behind [] (omega arith) refl refl).1
 
+pub returns-clause-small : goal.returns-clause-small
+returns-clause-small c = record { numbers = c.put_numbers-numbers.ensures.small; own = c.put_own-own.ensures.small; bitmaps = c.put_bitmaps-bitmaps.ensures.small }
+
 pub returns-clause-reads_back : goal.returns-clause-reads_back
 returns-clause-reads_back c part file written spelled room long read =
-    let small : IsSmall c.args.header.now = record { numbers = c.put_numbers-numbers.ensures.small; own = c.put_own-own.ensures.small; bitmaps = c.put_bitmaps-bitmaps.ensures.small } in
+    let small = returns-clause-small c in
     let begins : BeginsWith written c.args.header.now = record { fits = room; long = long; sector = read ∙ returns-clause-sector c room } in
     written_again part c.args.header.now file written small spelled begins
