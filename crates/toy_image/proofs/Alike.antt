@@ -14,12 +14,15 @@ use Rattle.qc_layout.specs.Entries.{offset_in, l1_of, l2_of}
 use Rattle.qc_layout.specs.Extensions.{list_end}
 use Rattle.qc_layout.specs.Header.{fields_of}
 use Rattle.qc_layout.specs.Disks.{entry_at, entry_under, table_at, bits_of, words_in, counts_in, blocks_in, block_at, refcount, reach_of, place_of}
-use Rattle.qc_layout.specs.Owners.{Who, Head, Counts, Block, Tables, Table, Guest, Meets, HostIs, Refers, Counted, Tight}
+use Rattle.qc_layout.specs.Directory.{directory_in}
+use Rattle.qc_layout.specs.Owners.{Who, Head, Counts, Block, Tables, Table, Guest, Meets, HostIs, Refers, TablesCounted, Owner, Image, Bitmaps, Owns, Tight}
+use Rattle.qc_layout.proofs.Directories.{stores_nothing}
 use Rattle.qc_layout.specs.Room.{TablesPass, IsInOrder, IsFreeFrom, HasRoom, is_missing_block, missing_blocks, room_from}
 use Rattle.qc_layout.proofs.Passing.{AreBehind, are_behind}
 use Rattle.image_model.specs.Space.{kind_at}
 use Rattle.image_model.specs.Images.{HasClusters, IsKind, IsThere}
 use Rattle.bitmap_model.specs.Granules.{granules_in, is_in}
+use Rattle.core_node.proofs.Sources.{bare_passes}
 use Rattle.toy_image.specs.declared.numbers.Numbers.{Numbers}
 use Rattle.toy_image.specs.Images.{store_of, IsImage, IsInFront}
 
@@ -47,7 +50,8 @@ same_count p q a (suc n) sum same =
     ap (λ (b : Bool). fold (λ s k. s + (if p k then 1 else 0)) (sum + (if b then 1 else 0)) (range_with_len (a + 1) n)) (same a (omega arith) (omega arith))
     ∙ same_count p q (a + 1) n (sum + (if q a then 1 else 0)) (λ k low high. same k (omega (arith, low)) (omega (arith, high)))
 
-module _ (n : Numbers) (disk file other : List ℕ) (image : IsImage n disk file) (fields : fields_of other ≡ fields_of file) (long : length other ≡ length file)
+module _ (n : Numbers) (disk file other : List ℕ) (image : IsImage n disk file) (autoclear : ℕ) (fields : fields_of other ≡ record (fields_of file) { autoclear_features = autoclear })
+    (long : length other ≡ length file) (bare : directory_in other ≡ None)
     (same : (i : ℕ) → 512 ≤ i → i < n.base → byte other i ≡ byte file i) where
   places : AreBehind (fields_of file)
   places = are_behind parts.Source (length file) (fields_of file) image.source.spelled.numbers
@@ -181,19 +185,20 @@ module _ (n : Numbers) (disk file other : List ℕ) (image : IsImage n disk file
     subst (λ (x : Result L2Entry EntryFault). HostIs x (place_of (bits_of other) k)) (sym (second_same i is.0 j is.1 is.2 is.3)) (subst (λ (b : ℕ). HostIs (l2_of (bits_of file) (u64_at file (is.0 + 8 * j))) (place_of b k)) (sym bits) is.4),
   )
 
-  counted : Counted file → Counted other
+  counted : TablesCounted file → TablesCounted other
   counted c = record {
     once = λ a b k x y. c.once a b k (back a k x) (back b k y);
     below = λ a k x. subst (λ (n : ℕ). k < n) (sym reach_same) (c.below a k (back a k x));
     counted = λ a k x. subst (λ (n : ℕ). 0 < n) (sym (count_same k)) (c.counted a k (back a k x));
   }
 
-  tight : Tight file → Tight other
-  tight c = record {
-    counted = counted c.counted;
-    ones = λ a k x. count_same k ∙ c.ones a k (back a k x);
-    others = λ k none. count_same k ∙ c.others k (λ a x. none a (to a k x));
-  }
+  own_back : (a : Owner) (k : ℕ) → Owns other a k → Owns file a k
+  own_back (Image a) k x = back a k x
+  own_back (Bitmaps a) k x = absurd ((stores_nothing other bare).held a k x)
+
+  own_to : (a : Owner) (k : ℕ) → Owns file a k → Owns other a k
+  own_to (Image a) k x = to a k x
+  own_to (Bitmaps a) k x = absurd ((stores_nothing file image.bare).held a k x)
 
   -- ---- the whole
 
@@ -209,6 +214,13 @@ module _ (n : Numbers) (disk file other : List ℕ) (image : IsImage n disk file
         let at = subst (λ (b : ℕ). j < words_in b) bits slot in
         subst IsInOrder (sym (second_same i table j here was at)) (p.entries i table j here was at);
     counted = counted p.counted;
+  }
+
+  tight : Tight file → Tight other
+  tight c = record {
+    counted = (bare_passes other bare (tables_pass image.source.passes)).1;
+    ones = λ a k x. count_same k ∙ c.ones a k (own_back a k x);
+    others = λ k none. count_same k ∙ c.others k (λ a x. none a (own_to a k x));
   }
 
   clusters_are : HasClusters other (store_of n)

@@ -1,5 +1,5 @@
 -- Files that differ in guest bytes alone are one image.
-use Rattle.std.proofs.Common.{◌≡◌, inl, ℕ, ◌+◌, ◌/◌, ◌%◌, ◌^◌, ◌<◌, ◌≤◌, List, length, max, Ok, Result, refl, sym, ap, subst, ◌∙◌, arith}
+use Rattle.std.proofs.Common.{◌≡◌, inl, ℕ, ◌+◌, ◌/◌, ◌%◌, ◌^◌, ◌<◌, ◌≤◌, List, length, max, None, Ok, Result, refl, sym, ap, subst, ◌∙◌, arith}
 use Rattle.std.proofs.Math.Nat.{le-max_left}
 use Rattle.disk_model.specs.Files.{byte}
 use Rattle.disk_model.proofs.Laws.{length-reading, byte-reading, reading_same}
@@ -14,6 +14,9 @@ use Rattle.qc_layout.specs.Spelling.{Spells, IsHeaderOf}
 use Rattle.qc_layout.specs.Laws.{start_length, BeginAlike}
 use Rattle.qc_layout.specs.Disks.{ReadsAs, entry_at, bits_of}
 use Rattle.qc_layout.proofs.Starts.{alike_fields, header_from_start, passes_from_start}
+use Rattle.qc_layout.specs.Directory.{directory_in}
+use Rattle.qc_layout.proofs.Directories.{finds_as_spelled}
+use Rattle.core_node.proofs.Sources.{bare_passes}
 use Rattle.toy_image.specs.declared.numbers.Numbers.{Numbers}
 use Rattle.toy_image.specs.Images.{store_of, IsSuited, IsImage, IsLike, GuestBytesAreFree, disk_in}
 use Rattle.toy_image.proofs.Alike.{IsSameForm, same_form}
@@ -60,8 +63,14 @@ module _ (n : Numbers) (disk file other : List ℕ) (image : IsImage n disk file
   bits : bits_of other ≡ bits_of file
   bits = ap (λ f. f.cluster_bits) fields
 
+  again : Spells parts.Source other (record (image.source.header) { own_at = place_in (first_of_kind own_kind image.source.spelled.extensions) })
+  again = (header_from_start parts.Source file other _ alike (whole_header file image.source.header image.source.spelled)).spells
+
+  bare : directory_in other ≡ None
+  bare = (finds_as_spelled parts.Source other _ again).directory ∙ sym (finds_as_spelled parts.Source file _ image.source.spelled).directory ∙ image.bare
+
   form : IsSameForm n file other
-  form = same_form n disk file other image fields like.long (λ i low high. like.outside i (inl high))
+  form = same_form n disk file other image (fields_of file).autoclear_features fields like.long bare (λ i low high. like.outside i (inl high))
 
   linear : (x : ℕ) → x < n.size → (host : ℕ) × (entry_at other (x / 2 ^ bits_of other) ≡ Ok (entries.Stored host)) × (host + x % 2 ^ bits_of other ≡ n.base + x) × (x / 2 ^ bits_of other < length (store_of n).kinds)
   linear = linear_in n disk file other image form bits
@@ -81,13 +90,16 @@ module _ (n : Numbers) (disk file other : List ℕ) (image : IsImage n disk file
         bytes = λ x below. reads x (let long = length-reading other n.base n.size in omega (arith, below, long));
       };
       passes = form.passes image.source.passes;
+      directory = (bare_passes other bare (form.passes image.source.passes)).0;
+      counted = (bare_passes other bare (form.passes image.source.passes)).1;
       header = record (image.source.header) { own_at = place_in (first_of_kind own_kind image.source.spelled.extensions) };
-      spelled = (header_from_start parts.Source file other _ alike (whole_header file image.source.header image.source.spelled)).spells;
+      spelled = again;
       spans_offset = image.source.spans_offset;
       spans_length = image.source.spans_length;
       own = image.source.own;
       clusters = form.clusters;
     };
+    bare = bare;
     room = form.room;
     behind = form.behind;
     linear = linear;

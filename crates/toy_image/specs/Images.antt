@@ -3,12 +3,13 @@ use Rattle.std.specs.Prelude.{◌≡◌, ◌≢◌, ◌⊎◌, ℕ, ◌+◌, ◌
 use Rattle.std.specs.List.{range_with_len, count_by}
 use Rattle.disk_model.specs.Files.{byte, reading, overlay, u64_at}
 use Rattle.disk_model.specs.World.{World, FileFailed}
-use Rattle.bitmap_model.specs.Bitmap.{StoredBitmap}
 use Rattle.bitmap_model.specs.Granules.{granules_in}
 use Rattle.qc_layout.specs.declared.entry.L2Entry.TheVariants as entries
 use Rattle.qc_layout.specs.Disks.{entry_at, table_at, bits_of, blocks_in, block_at, counts_in, words_in}
 use Rattle.qc_layout.specs.Owners.{Tight}
+use Rattle.qc_layout.specs.Directory.{directory_in}
 use Rattle.qc_layout.specs.Header.{fields_of}
+use Rattle.qc_layout.specs.declared.header.Fields.{Fields}
 use Rattle.qc_layout.specs.declared.header.Header.{Header}
 use Rattle.qc_layout.specs.declared.header.HeaderFault.{HeaderFault}
 use Rattle.qc_layout.specs.declared.header.HeaderFault.TheVariants as faults
@@ -19,14 +20,11 @@ use Rattle.qc_layout.specs.Spelling.{Spells}
 use Rattle.qc_layout.specs.Room.{HasRoom, IsFreeFrom}
 use Rattle.image_model.specs.Space.{Store, Data, IsShapedStore, entries_in}
 use Rattle.image_model.specs.Images.{IsSourceOf}
+use Rattle.core_node.specs.Ends.{KeepsHeader}
 use Rattle.toy_image.specs.declared.numbers.Numbers.{Numbers}
 use Rattle.toy_image.specs.declared.image.Blocks.{Blocks}
 use Rattle.toy_image.specs.declared.image.NotLooked.{NotLooked}
 use Rattle.toy_image.specs.declared.image.NotLooked.TheVariants as unlooked
-
--- no image of this form stores a bitmap
-abbrev pub no_bitmaps : List ℕ → List StoredBitmap
-no_bitmaps file = []
 
 -- each cluster is Data, each table is there
 abbrev pub store_of : Numbers → Store
@@ -63,6 +61,8 @@ pub record IsInFront (base kinds tables : ℕ) (file : List ℕ) : Type 0 where
 -- the file is a source in order, whose guest bytes stand one after another from the base on
 pub record IsImage (n : Numbers) (disk file : List ℕ) : Type 0 where
   pub source : IsSourceOf file disk n.id n.epoch (store_of n)
+  -- no directory of bitmaps
+  pub bare : directory_in file ≡ None
   pub room : HasRoom file n.room
   -- the guest's clusters are the last
   pub behind : IsFreeFrom file (granules_in (n.base + n.size) n.cluster)
@@ -130,11 +130,17 @@ IsRefusal unlooked.Memory fault = Unit {0}
 abbrev pub raised : Numbers → Numbers
 raised n = record n { epoch = n.epoch + 1 }
 
+-- no autoclear bit is kept: the one that is known is that of bitmaps
+abbrev pub cleared : Fields → Fields
+cleared f = record f { autoclear_features = 0 }
+
 -- the file spells this header, but with the next epoch
 pub record SpellsNext (header : Header) (id : List ℕ) (epoch offset long : ℕ) (file : List ℕ) : Type 0 where
   pub next : Header
   pub spelled : Spells parts.Source file next
-  pub fields : next.fields ≡ header.fields
+  pub fields : next.fields ≡ cleared header.fields
+  pub kept : next.kept.items.items ≡ header.kept.items.items
+  pub bitmaps : next.bitmaps ≡ header.bitmaps
   pub own : next.own ≡ owns.Source id (epoch + 1) offset long
 
 -- the sector makes each file spell it
@@ -146,6 +152,7 @@ HasNextEpoch header sector = (file written id : List ℕ) (epoch offset long : �
 pub record Raises (n : Numbers) (sector file : List ℕ) : Type 0 where
   pub long : 512 ≤ length file
   pub image : (disk : List ℕ) → IsImage n disk file → IsImage (raised n) disk (overlay file 0 sector)
+  pub header : KeepsHeader file (overlay file 0 sector)
 
 -- ---- missing blocks
 

@@ -315,12 +315,13 @@ fn next_own(own: Own) -> Own
     }
 }
 
-/// The header's sector, with the next epoch.
+/// The header's sector, with the next epoch and without autoclear bits.
 pub fn head(header: Header) -> [u8; 512]
     ensures { HasNextEpoch header result }
 {
     let mut next = header;
     next.own = next_own(next.own);
+    next.fields.autoclear_features = 0;
     let mut sector = [0; 512];
     write_header(&next, &mut sector);
     sector

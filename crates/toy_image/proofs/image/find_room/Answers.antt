@@ -1,13 +1,24 @@
 use Rattle.std.proofs.Common.{◌≡◌, ◌+◌, ◌-◌, ◌*◌, ◌/◌, ◌%◌, ◌^◌, ◌<◌, ◌≤◌, ℕ, ap, sym, subst, refl, ◌∙◌, arith}
 use Rattle.qc_layout.specs.declared.header.Fields.{Fields}
-use Rattle.toy_image.proofs.Looking.{counts_are, cluster_small, AreSmall, are_small, room_is}
+use Rattle.toy_image.proofs.Looking.{begins_at, counts_are, cluster_small, AreSmall, are_small, room_is}
 use Rattle.toy_image.proofs.image.find_room.Given.{Over}
-use Rattle.toy_image.proofs.image.find_room.Goals.{then-long-via-then-long, then-long-via-else-long+then-at-long}
+use Rattle.toy_image.proofs.image.find_room.Goals.{then-bits-lt9-via-then-bits-lt9, then-bits-lt9-via-else-bits-lt9+then-bits-gt21, then-long-via-then-long, then-long-via-else-long+then-at-long}
 use Rattle.toy_image.proofs.image.find_room.Goals as goal
 
 small : (bits clusters n : ℕ) → 9 ≤ bits → bits ≤ 21 → n ≡ clusters → n * (1 * 2 ^ bits % 18446744073709551616) ≤ 67108864 → AreSmall bits clusters
 small bits clusters n low high same few =
     are_small bits clusters low high (subst (λ (k : ℕ). clusters * k ≤ 67108864) (cluster_small bits high) (subst (λ (k : ℕ). k * (1 * 2 ^ bits % 18446744073709551616) ≤ 67108864) same few))
+
+pub returns-then-bits-lt9-clause-not : goal.returns-then-bits-lt9-clause-not
+returns-then-bits-lt9-clause-not g c = λ told opens.
+    let at = begins_at opens.numbers _ opens.is in
+    let same = ap (λ (f : Fields). f.cluster_bits) (c.requires.fields told opens) in
+    let low = at.low in
+    let high = at.high in
+    elim c.then-bits-lt9.branch [
+      | then-bits-lt9-via-then-bits-lt9 w ↦ (let t = w.if-bits-lt9.true in omega (arith, same, low, t))
+      | then-bits-lt9-via-else-bits-lt9+then-bits-gt21 w ↦ (let t = w.if-bits-gt21.true in omega (arith, same, high, t))
+    ]
 
 pub returns-then-long-clause-not : goal.returns-then-long-clause-not
 returns-then-long-clause-not g c = λ told opens.
