@@ -1,3 +1,5 @@
 pub mod Rests
 mod Refusals
 pub mod Sources
+pub mod Keeping
+pub mod Causing

@@ -33,7 +33,7 @@ use Rattle.core_node.specs.Files.{Reading}
 use Rattle.core_loop.proofs.Courses.{kept_in_event}
 use Rattle.core_layers.proofs.Exports.{target_goes_on}
 use Rattle.toy_core.specs.declared.toy.Toy.{Toy}
-use Rattle.toy_image.specs.Images.{no_bitmaps, store_of, IsVersionOf, disk_in}
+use Rattle.toy_image.specs.Images.{store_of, IsVersionOf, disk_in}
 use Rattle.toy_core.specs.Toy.{IsBuilt, on_drive, is_bad, denies, shown, machine_of, next, broke, IsHeld, Keeps, IsNamed}
 use Rattle.toy_core.proofs.Space.{store_stays, freed_is}
 use Rattle.toy_core.proofs.Served.{by_shape, reply_with, place_is, denial_is, fate_denied, fate_is, denied, wrote, tore, flushed, broken_by, unread, has_read, ticked}
@@ -64,7 +64,7 @@ hold_during t w h disks (Guest r) k = elim (cases_Bool (is_write r.work)) [ inl 
 hold_during t w h disks (Monitor c) k = k
 hold_during t w h disks Tick k = k
 
-safe_during : (t : Toy) (h : History) (disks : List (List ℕ)) (event : Event) (c : List ℕ) → length (now h) ≡ length h.start → IsSafe no_bitmaps (directory t ∷ []) t.source.image.id h disks c → IsSafe no_bitmaps (directory t ∷ []) t.source.image.id h (kept_during disks event (now h)) c
+safe_during : (t : Toy) (h : History) (disks : List (List ℕ)) (event : Event) (c : List ℕ) → length (now h) ≡ length h.start → IsSafe (directory t ∷ []) t.source.image.id h disks c → IsSafe (directory t ∷ []) t.source.image.id h (kept_during disks event (now h)) c
 safe_during t h disks event c long s = record { disk = s.disk; like = s.like; kept = kept_in_event disks event (now h) s.disk (s.like.long ∙ sym long) s.kept; ready = s.ready; trusted = s.trusted }
 
 -- an answer that isn't Done, or to a request that doesn't sync, leaves the disks of the event
@@ -83,7 +83,7 @@ still : (t : Toy) (n : ℕ) (broken : Option ℕ) (old new : World) (h : History
     → ((k : ℕ) → old.now ≤ k → k < new.now → new.past k t.source.file.0 ≡ versions old t.source.file.0) → after ≡ kept_during disks event (now h) → Leaves t n broken h h (kept_during disks event (now h)) after old new
 still t n broken old new h disks after event k tells named seen same before is = record {
   holds = λ s. subst (IsHeld (moved t n broken) new h) (sym is) (hold_during (moved t n broken) new h disks event (still_holds t old new h disks n broken k s tells named seen same));
-  crashes = since_more new old.now t.source.file.0 (IsSafe no_bitmaps (directory t ∷ []) t.source.image.id h disks) (IsSafe no_bitmaps (directory t ∷ []) t.source.image.id h (kept_during disks event (now h)))
+  crashes = since_more new old.now t.source.file.0 (IsSafe (directory t ∷ []) t.source.image.id h disks) (IsSafe (directory t ∷ []) t.source.image.id h (kept_during disks event (now h)))
       (λ c s. safe_during t h disks event c (k.image.size_is ∙ sym (sized t h t.source.image.size k.image.size_is k.sound)) s)
       (still_crashes t old new h disks k (λ i low high. inl (before i low high)) same);
 }
@@ -175,7 +175,7 @@ module _ (t : Toy) (r : Request) (built : IsBuilt r.work) (has : HasBytes r r.wo
           leaves = still t (next t).event t.broken w w h disks (disks_after disks r.work false (now h)) (Guest r) k refl k.named refl refl (λ i low high. absurd (omega (arith, low, high))) (not_synced disks r.work (now h));
         }
 
-    pub denied_steps : {reading : Reading} → NodeSteps no_bitmaps reading (shown t) (Keeps t w) (Keeps (next t) w) w w (Guest r) (record { reply = Fault errno; notices = [] })
+    pub denied_steps : {reading : Reading} → NodeSteps reading (shown t) (Keeps t w) (Keeps (next t) w) w w (Guest r) (record { reply = Fault errno; notices = [] })
     denied_steps = steps nothing none_held (rise_of w w) no_trouble t (next t).event t.broken (λ g. g) w w (Guest r) (Fault errno) told (stay nothing w) (λ g none. absurd none) (is_rise w w) (λ name. refl) (λ h c is. is) denied_served
 
   -- ---- one that isn't
@@ -208,7 +208,7 @@ module _ (t : Toy) (r : Request) (built : IsBuilt r.work) (has : HasBytes r r.wo
       write_leaves : (ok : Bool) (h : History) (disks : List (List ℕ)) → IsHeld t old h disks → Leaves t (next t).event t.broken h (grow h) (kept_during disks (Guest r) (now (grow h))) (disks_after disks r.work ok (now (grow h))) old new
       write_leaves ok h disks k = record {
         holds = λ s. subst (IsHeld (next t) new (grow h)) (sym (after_is ok disks (now (grow h)))) (write_holds t old new h disks r.offset r.bytes k sound_new call fits (next t).event t.broken s);
-        crashes = subst (λ (ds : List (List ℕ)). EachSince new old.now t.source.file.0 (IsSafe no_bitmaps (directory t ∷ []) t.source.image.id h ds)) (sym (during_is disks (now (grow h)))) (write_crashes t old new h disks r.offset r.bytes k sound_new call fits);
+        crashes = subst (λ (ds : List (List ℕ)). EachSince new old.now t.source.file.0 (IsSafe (directory t ∷ []) t.source.image.id h ds)) (sym (during_is disks (now (grow h)))) (write_crashes t old new h disks r.offset r.bytes k sound_new call fits);
       }
 
       only : (g : ℕ) → (writes_of t.source.file.0).files g → g ≡ t.source.file.0
@@ -233,7 +233,7 @@ module _ (t : Toy) (r : Request) (built : IsBuilt r.work) (has : HasBytes r r.wo
               leaves = write_leaves true h disks k;
             }
 
-        pub wrote_steps : {reading : Reading} → NodeSteps no_bitmaps reading (shown t) (Keeps t old) (Keeps (next t) new) old new (Guest r) (record { reply = Done; notices = [] })
+        pub wrote_steps : {reading : Reading} → NodeSteps reading (shown t) (Keeps t old) (Keeps (next t) new) old new (Guest r) (record { reply = Done; notices = [] })
         wrote_steps = steps (writes_of t.source.file.0) none_held (rise_of old new) no_trouble t (next t).event t.broken grow old new (Guest r) Done told write_run only (is_rise old new) (λ name. refl) (λ h c is. target_goes_on (Wrote r.offset left) is) wrote_served
 
       module _ (shared : Rose old.faults.shared new.faults.shared) (failed : Rose (old.faults.writes t.source.file.0) (new.faults.writes t.source.file.0)) where
@@ -255,7 +255,7 @@ module _ (t : Toy) (r : Request) (built : IsBuilt r.work) (has : HasBytes r r.wo
               leaves = write_leaves false h disks k;
             }
 
-        pub tore_steps : {reading : Reading} → NodeSteps no_bitmaps reading (shown t) (Keeps t old) (Keeps (next t) new) old new (Guest r) (record { reply = Fault Io; notices = [] })
+        pub tore_steps : {reading : Reading} → NodeSteps reading (shown t) (Keeps t old) (Keeps (next t) new) old new (Guest r) (record { reply = Fault Io; notices = [] })
         tore_steps = steps (writes_of t.source.file.0) none_held (rise_of old new) (record no_trouble { request = Torn left }) t (next t).event t.broken grow old new (Guest r) (Fault Io) told write_run only (is_rise old new) (λ name. refl) (λ h c is. target_goes_on (Wrote r.offset left) is) tore_served
 
     -- ---- a flush
@@ -277,11 +277,11 @@ module _ (t : Toy) (r : Request) (built : IsBuilt r.work) (has : HasBytes r r.wo
               faults = quiet (old.named t.source.file.0) (rise_of old new) (machine_of t h) (Guest r) Done (never (is_none t.broken)) (ap (λ (f : Fate). breaks_by f no_trouble r.work) carried);
               leaves = record {
                 holds = λ s. subst (IsHeld (next t) new h) (sym (ap (λ (w : Work). disks_after disks w true (now h)) work)) (synced_holds t old new h disks k sound_old call done (next t).event t.broken s);
-                crashes = subst (λ (ds : List (List ℕ)). EachSince new old.now t.source.file.0 (IsSafe no_bitmaps (directory t ∷ []) t.source.image.id h ds)) (sym (same_during disks (now h))) (synced_crashes t old new h disks k sound_old call done);
+                crashes = subst (λ (ds : List (List ℕ)). EachSince new old.now t.source.file.0 (IsSafe (directory t ∷ []) t.source.image.id h ds)) (sym (same_during disks (now h))) (synced_crashes t old new h disks k sound_old call done);
               };
             }
 
-        pub flushed_steps : {reading : Reading} → NodeSteps no_bitmaps reading (shown t) (Keeps t old) (Keeps (next t) new) old new (Guest r) (record { reply = Done; notices = [] })
+        pub flushed_steps : {reading : Reading} → NodeSteps reading (shown t) (Keeps t old) (Keeps (next t) new) old new (Guest r) (record { reply = Done; notices = [] })
         flushed_steps = steps (writes_of t.source.file.0) none_held (rise_of old new) no_trouble t (next t).event t.broken (λ g. g) old new (Guest r) Done told call.run (λ g is. is) (is_rise old new) (λ name. refl) (λ h c is. is) flushed_served
 
       module _ (same : versions new t.source.file.0 ≡ versions old t.source.file.0) (shared : Rose old.faults.shared new.faults.shared) (failed : Rose (old.faults.writes t.source.file.0) (new.faults.writes t.source.file.0)) where
@@ -298,7 +298,7 @@ module _ (t : Toy) (r : Request) (built : IsBuilt r.work) (has : HasBytes r r.wo
               leaves = still t (broke t).event (broke t).broken old new h disks (disks_after disks r.work false (now h)) (Guest r) k call.run.goes.tells (named_on t.source.file.0 call.run (λ none. none) k.named) call.seen same call.steps (not_synced disks r.work (now h));
             }
 
-        pub broke_steps : {reading : Reading} → NodeSteps no_bitmaps reading (shown t) (Keeps t old) (Keeps (broke t) new) old new (Guest r) (record { reply = Fault Io; notices = [] })
+        pub broke_steps : {reading : Reading} → NodeSteps reading (shown t) (Keeps t old) (Keeps (broke t) new) old new (Guest r) (record { reply = Fault Io; notices = [] })
         broke_steps = steps (writes_of t.source.file.0) none_held (rise_of old new) (record no_trouble { request = Untouched }) t (broke t).event (broke t).broken (λ g. g) old new (Guest r) (Fault Io) told call.run (λ g is. is) (is_rise old new) (λ name. refl) (λ h c is. is) broke_served
 
     -- ---- a read
@@ -335,7 +335,7 @@ module _ (t : Toy) (r : Request) (built : IsBuilt r.work) (has : HasBytes r r.wo
               leaves = read_leaves false h disks k;
             }
 
-        pub read_steps : {reading : Reading} → NodeSteps no_bitmaps reading (shown t) (Keeps t old) (Keeps (next t) new) old new (Guest r) (record { reply = Content bytes; notices = [] })
+        pub read_steps : {reading : Reading} → NodeSteps reading (shown t) (Keeps t old) (Keeps (next t) new) old new (Guest r) (record { reply = Content bytes; notices = [] })
         read_steps = steps (reads_of t.source.file.0) none_held (rise_of old new) no_trouble t (next t).event t.broken (λ g. g) old new (Guest r) (Content bytes) told run (λ g none. absurd none) (is_rise old new) (λ name. refl) (λ h c is. is) read_served
 
       module _ (shared : Rose old.faults.shared new.faults.shared) (failed : Rose (old.faults.reads t.source.file.0) (new.faults.reads t.source.file.0)) where
@@ -353,7 +353,7 @@ module _ (t : Toy) (r : Request) (built : IsBuilt r.work) (has : HasBytes r r.wo
               leaves = read_leaves false h disks k;
             }
 
-        pub unread_steps : {reading : Reading} → NodeSteps no_bitmaps reading (shown t) (Keeps t old) (Keeps (next t) new) old new (Guest r) (record { reply = Fault Io; notices = [] })
+        pub unread_steps : {reading : Reading} → NodeSteps reading (shown t) (Keeps t old) (Keeps (next t) new) old new (Guest r) (record { reply = Fault Io; notices = [] })
         unread_steps = steps (reads_of t.source.file.0) none_held (rise_of old new) (record no_trouble { request = Untouched }) t (next t).event t.broken (λ g. g) old new (Guest r) (Fault Io) told run (λ g none. absurd none) (is_rise old new) (λ name. refl) (λ h c is. is) unread_served
 
 -- ---- a tick
@@ -369,20 +369,20 @@ module _ (t : Toy) (w : World) (told : IsTrue w.tells) where
     leaves = still t (next t).event t.broken w w h disks disks Tick k refl k.named refl refl (λ i low high. absurd (omega (arith, low, high))) refl;
   }
 
-  pub tick_steps : {reading : Reading} → NodeSteps no_bitmaps reading (shown t) (Keeps t w) (Keeps (next t) w) w w Tick (record { reply = Done; notices = [] })
+  pub tick_steps : {reading : Reading} → NodeSteps reading (shown t) (Keeps t w) (Keeps (next t) w) w w Tick (record { reply = Done; notices = [] })
   tick_steps = steps nothing none_held (rise_of w w) no_trouble t (next t).event t.broken (λ g. g) w w Tick Done told (stay nothing w) (λ g none. absurd none) (is_rise w w) (λ name. refl) (λ h c is. is) tick_served
 
 -- ---- as the code leaves it
 
 pub as_moved : {t : Toy} {old new : World} {event : Event} {answer : Answer} {reading : Reading} (n e : ℕ) (broken : Option ℕ) → n ≡ e
-    → NodeSteps no_bitmaps reading (shown t) (Keeps t old) (Keeps (moved t e broken) new) old new event answer → NodeSteps no_bitmaps reading (shown t) (Keeps t old) (Keeps (moved t n broken) new) old new event answer
+    → NodeSteps reading (shown t) (Keeps t old) (Keeps (moved t e broken) new) old new event answer → NodeSteps reading (shown t) (Keeps t old) (Keeps (moved t n broken) new) old new event answer
 as_moved {t} {old} {new} {event} {answer} {reading} n e broken is steps =
-    subst (λ (m : ℕ). NodeSteps no_bitmaps reading (shown t) (Keeps t old) (Keeps (moved t m broken) new) old new event answer) (sym is) steps
+    subst (λ (m : ℕ). NodeSteps reading (shown t) (Keeps t old) (Keeps (moved t m broken) new) old new event answer) (sym is) steps
 
 pub as_broke : {t : Toy} {old new : World} {event : Event} {answer : Answer} {reading : Reading} (n e : ℕ) → n ≡ e
-    → NodeSteps no_bitmaps reading (shown t) (Keeps t old) (Keeps (moved t e (Some e)) new) old new event answer → NodeSteps no_bitmaps reading (shown t) (Keeps t old) (Keeps (moved t n (Some n)) new) old new event answer
+    → NodeSteps reading (shown t) (Keeps t old) (Keeps (moved t e (Some e)) new) old new event answer → NodeSteps reading (shown t) (Keeps t old) (Keeps (moved t n (Some n)) new) old new event answer
 as_broke {t} {old} {new} {event} {answer} {reading} n e is steps =
-    subst (λ (m : ℕ). NodeSteps no_bitmaps reading (shown t) (Keeps t old) (Keeps (moved t m (Some m)) new) old new event answer) (sym is) steps
+    subst (λ (m : ℕ). NodeSteps reading (shown t) (Keeps t old) (Keeps (moved t m (Some m)) new) old new event answer) (sym is) steps
 
 -- ---- denials, whatever files hold
 

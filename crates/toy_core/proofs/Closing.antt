@@ -9,12 +9,12 @@ use Rattle.plain_model.specs.History.{History, now}
 use Rattle.image_model.specs.Space.{IsShapedStore}
 use Rattle.plain_model.specs.Ending.{closed, leave}
 use Rattle.plain_model.specs.Closing.{stored_by}
-use Rattle.plain_model.specs.Laws.{IsShapedEntry}
+use Rattle.bitmap_model.specs.Bitmaps.{IsShapedEntry}
 use Rattle.plain_model.specs.Lawful.{IsTrueEntry}
 use Rattle.core_node.specs.Rest.{State, Directory, IsReady, IsSafe, in_session, in_closing, closed_directory}
 use Rattle.core_node.specs.Ends.{Closes, Closed}
 use Rattle.core_node.proofs.Rests.{allows_left, ready_more, safe_more}
-use Rattle.toy_image.specs.Images.{no_bitmaps, store_of}
+use Rattle.toy_image.specs.Images.{store_of}
 use Rattle.toy_core.specs.declared.toy.Toy.{Toy}
 use Rattle.toy_core.specs.Toy.{machine_of, state_of, IsHeld, IsNamed, Keeps}
 use Rattle.toy_core.proofs.Holding.{directory, sized, still_holds, still_crashes, synced_holds, synced_crashes}
@@ -42,36 +42,36 @@ none_by (Some n) b is not = absurd (cc)
 module _ (t : Toy) (old new : World) where
   -- one that left the file as it is
   pub closes_still : (s : State) → Keeps t old s → new.tells ≡ old.tells → IsNamed t.source.file.0 new → new.seen t.source.file.0 ≡ old.seen t.source.file.0 → versions new t.source.file.0 ≡ versions old t.source.file.0
-      → ((k : ℕ) → old.now ≤ k → k < new.now → new.past k t.source.file.0 ≡ versions old t.source.file.0) → Closes no_bitmaps t.source.file.0 t.source.image.id s old new
-  closes_still s keeps tells named seen same before = at_state (λ s. Closes no_bitmaps t.source.file.0 t.source.image.id s old new) (λ h disks k.
+      → ((k : ℕ) → old.now ≤ k → k < new.now → new.past k t.source.file.0 ≡ versions old t.source.file.0) → Closes t.source.file.0 t.source.image.id s old new
+  closes_still s keeps tells named seen same before = at_state (λ s. Closes t.source.file.0 t.source.image.id s old new) (λ h disks k.
       let s = state_of t h disks in
       let held = safe t new s (kept (still_holds t old new h disks t.event t.broken k k.sound tells named seen same)) in
       record {
-        since = since_more new old.now t.source.file.0 (IsSafe no_bitmaps (in_session s) t.source.image.id h disks) (IsSafe no_bitmaps (in_closing s) t.source.image.id h disks) (λ c is. safe_more (λ d. allows_left (in_session s) (closed_directory s ∷ []) d) is)
+        since = since_more new old.now t.source.file.0 (IsSafe (in_session s) t.source.image.id h disks) (IsSafe (in_closing s) t.source.image.id h disks) (λ c is. safe_more (λ d. allows_left (in_session s) (closed_directory s ∷ []) d) is)
             (still_crashes t old new h disks k (λ i low high. inl (before i low high)) same);
         rest = record {
           seen = λ told. ready_more (λ d. allows_left (in_session s) (closed_directory s ∷ []) d) (held.seen told);
-          each = now_more new t.source.file.0 (IsSafe no_bitmaps (in_session s) t.source.image.id h disks) (IsSafe no_bitmaps (in_closing s) t.source.image.id h disks) (λ c is. safe_more (λ d. allows_left (in_session s) (closed_directory s ∷ []) d) is) held.each;
+          each = now_more new t.source.file.0 (IsSafe (in_session s) t.source.image.id h disks) (IsSafe (in_closing s) t.source.image.id h disks) (λ c is. safe_more (λ d. allows_left (in_session s) (closed_directory s ∷ []) d) is) held.each;
         };
       }) s keeps
 
   module _ (sound_old : IsSound old) (call : Syncs t.source.file.0 old new) (done : HasSynced t.source.file.0 old new) where
-    pub closes_synced : (s : State) → Keeps t old s → Closes no_bitmaps t.source.file.0 t.source.image.id s old new
-    closes_synced = at_state (λ s. Closes no_bitmaps t.source.file.0 t.source.image.id s old new) (λ h disks k.
+    pub closes_synced : (s : State) → Keeps t old s → Closes t.source.file.0 t.source.image.id s old new
+    closes_synced = at_state (λ s. Closes t.source.file.0 t.source.image.id s old new) (λ h disks k.
         let s = state_of t h disks in
         let held = safe t new (state_of t h (now h ∷ [])) (kept (synced_holds t old new h disks k sound_old call done t.event t.broken k.sound)) in
-        let since : EachSince new old.now t.source.file.0 (IsSafe no_bitmaps (in_closing s) t.source.image.id h disks) = since_more new old.now t.source.file.0 (IsSafe no_bitmaps (in_session s) t.source.image.id h disks) (IsSafe no_bitmaps (in_closing s) t.source.image.id h disks)
+        let since : EachSince new old.now t.source.file.0 (IsSafe (in_closing s) t.source.image.id h disks) = since_more new old.now t.source.file.0 (IsSafe (in_session s) t.source.image.id h disks) (IsSafe (in_closing s) t.source.image.id h disks)
         (λ c is. safe_more (λ d. allows_left (in_session s) (closed_directory s ∷ []) d) is) (synced_crashes t old new h disks k sound_old call done) in
         record {
           since = since;
           rest = record {
             seen = λ told. ready_more (λ d. allows_left (in_session s) (closed_directory s ∷ []) d) (held.seen told);
-            each = now_since new old.now t.source.file.0 (IsSafe no_bitmaps (in_closing s) t.source.image.id h disks) call.run.goes.later since;
+            each = now_since new old.now t.source.file.0 (IsSafe (in_closing s) t.source.image.id h disks) call.run.goes.later since;
           };
         })
 
-    pub closed_synced : (answer : Answer) → answer.notices ≡ [] → t.broken ≡ None → (s : State) → Keeps t old s → Closed no_bitmaps t.source.file.0 t.source.image.id s new answer
-    closed_synced answer none whole = at_state (λ s. Closed no_bitmaps t.source.file.0 t.source.image.id s new answer) (λ h disks k.
+    pub closed_synced : (answer : Answer) → answer.notices ≡ [] → t.broken ≡ None → (s : State) → Keeps t old s → Closed t.source.file.0 t.source.image.id s new answer
+    closed_synced answer none whole = at_state (λ s. Closed t.source.file.0 t.source.image.id s new answer) (λ h disks k.
         let s = state_of t h (now h ∷ []) in
         let after = synced_holds t old new h disks k sound_old call done t.event t.broken k.sound in
         let held = safe t new s (kept after) in
@@ -79,7 +79,7 @@ module _ (t : Toy) (old new : World) where
         record {
           whole = whole;
           notices_are = none ∙ sym (none_told t h);
-          rest = subst (λ (d : Directory). Holds t.source.file.0 (IsReady no_bitmaps (d ∷ []) t.source.image.id h) (IsSafe no_bitmaps (d ∷ []) t.source.image.id h (now h ∷ [])) new) (sym same) held;
+          rest = subst (λ (d : Directory). Holds t.source.file.0 (IsReady (d ∷ []) t.source.image.id h) (IsSafe (d ∷ []) t.source.image.id h (now h ∷ [])) new) (sym same) held;
           opening = record { epoch = t.source.image.epoch; entries = []; store = store_of t.source.image; taken = 0; given = 0 };
           finds = record {
             source = after.image.source;

@@ -22,7 +22,7 @@ use Rattle.core_node.specs.Step.{IsRise, next_state, during, kept_during, kept_a
 use Rattle.core_node.specs.Rest.{State, session_directory, IsSafe}
 use Rattle.core_node.proofs.Rests.{one_kind}
 use Rattle.toy_core.specs.declared.toy.Toy.{Toy}
-use Rattle.toy_image.specs.Images.{no_bitmaps, store_of}
+use Rattle.toy_image.specs.Images.{store_of}
 use Rattle.toy_core.specs.Toy.{shown, machine_of, state_of, IsHeld, Keeps}
 use Rattle.toy_core.proofs.Holding.{directory, moved}
 use Rattle.toy_core.proofs.Served.{reply_with}
@@ -44,7 +44,7 @@ other_leads {parts} {a} {b} source f S P run only told none = elim (cases_eq f s
 -- what its calls leave: the next history and the disks that a crash may mix then
 pub record Leaves (t : Toy) (n : ℕ) (broken : Option ℕ) (h next : History) (within after : List (List ℕ)) (old new : World) : Type 0 where
   pub holds : sound.IsSound (machine_of (moved t n broken) next) → IsHeld (moved t n broken) new next after
-  pub crashes : EachSince new old.now t.source.file.0 (IsSafe no_bitmaps (directory t ∷ []) t.source.image.id h within)
+  pub crashes : EachSince new old.now t.source.file.0 (IsSafe (directory t ∷ []) t.source.image.id h within)
 
 -- for each history and its disks
 pub record Served (held : List ℕ → Held) (rise : Rise) (tr : Trouble) (t : Toy) (n : ℕ) (broken : Option ℕ) (grow : History → History) (old new : World) (event : Event) (reply : Reply) (h : History) (disks : List (List ℕ)) : Type 0 where
@@ -92,18 +92,18 @@ module _ (parts : Parts) (held : List ℕ → Held) (rise : Rise) (tr : Trouble)
   next_at s = next_of held tr event (record { reply = reply; notices = [] }) (store_of t.source.image) 0 s
 
   abbrev CrashAt : State → Type 0
-  CrashAt s = EachSince new old.now t.source.file.0 (λ c. IsSafe no_bitmaps (session_directory (during s event (now (next_at s).machine.history)) ∷ []) t.source.image.id s.machine.history (during s event (now (next_at s).machine.history)).disks c
-      ⊎ (IsTrue (may_land event) × IsSafe no_bitmaps (session_directory (next_at s) ∷ []) t.source.image.id (next_at s).machine.history (next_at s).disks c))
+  CrashAt s = EachSince new old.now t.source.file.0 (λ c. IsSafe (session_directory (during s event (now (next_at s).machine.history)) ∷ []) t.source.image.id s.machine.history (during s event (now (next_at s).machine.history)).disks c
+      ⊎ (IsTrue (may_land event) × IsSafe (session_directory (next_at s) ∷ []) t.source.image.id (next_at s).machine.history (next_at s).disks c))
 
   crash_next : (h : History) (disks : List (List ℕ)) → IsHeld t old h disks → CrashAt (state_of t h disks)
-  crash_next h disks k = since_more new old.now t.source.file.0 (IsSafe no_bitmaps (directory t ∷ []) t.source.image.id h (kept_during disks event (now (next_at (state_of t h disks)).machine.history))) _ (λ c is. inl is)
-      (subst (λ (m : Machine). EachSince new old.now t.source.file.0 (IsSafe no_bitmaps (directory t ∷ []) t.source.image.id h (kept_during disks event (now m.history)))) (sym (machine_is h disks k)) (served h disks k).leaves.crashes)
+  crash_next h disks k = since_more new old.now t.source.file.0 (IsSafe (directory t ∷ []) t.source.image.id h (kept_during disks event (now (next_at (state_of t h disks)).machine.history))) _ (λ c is. inl is)
+      (subst (λ (m : Machine). EachSince new old.now t.source.file.0 (IsSafe (directory t ∷ []) t.source.image.id h (kept_during disks event (now m.history)))) (sym (machine_is h disks k)) (served h disks k).leaves.crashes)
 
   lawful_next : (c : List ℕ) (s : State) → Keeps t old s → IsLawfulTarget t.source.image.id s.machine.history c → IsLawfulTarget t.source.image.id (next_at s).machine.history c
   lawful_next c = at_state (λ s. IsLawfulTarget t.source.image.id s.machine.history c → IsLawfulTarget t.source.image.id (next_at s).machine.history c)
       (λ h disks k law. subst (λ (m : Machine). IsLawfulTarget t.source.image.id m.history c) (sym (machine_is h disks k)) (grows h c law))
 
-  pub goes : Goes no_bitmaps held rise tr (store_of t.source.image) 0 (shown t) (Keeps t old) (Keeps (moved t n broken) new) old new event (record { reply = reply; notices = [] })
+  pub goes : Goes held rise tr (store_of t.source.image) 0 (shown t) (Keeps t old) (Keeps (moved t n broken) new) old new event (record { reply = reply; notices = [] })
   goes = record {
     contents = at_state (λ s. StepContents held tr s.machine event (record { reply = reply; notices = [] }) (next_of held tr event (record { reply = reply; notices = [] }) (store_of t.source.image) 0 s).machine) contents;
     space = at_state (λ s. StepSpace tr s.machine event (next_of held tr event (record { reply = reply; notices = [] }) (store_of t.source.image) 0 s).machine) space;
@@ -120,7 +120,7 @@ module _ (parts : Parts) (held : List ℕ → Held) (rise : Rise) (tr : Trouble)
     stays = λ s f b base p k sealed. other_leads t.source.file.0 f (λ c. IsBackupOf c b) (λ c. IsBackupOf c b) run only told (λ is. no_backup k.holds is.in_order);
   }
 
-  pub steps : {reading : Reading} → NodeSteps no_bitmaps reading (shown t) (Keeps t old) (Keeps (moved t n broken) new) old new event (record { reply = reply; notices = [] })
+  pub steps : {reading : Reading} → NodeSteps reading (shown t) (Keeps t old) (Keeps (moved t n broken) new) old new event (record { reply = reply; notices = [] })
   steps = record {
     held = held;
     held_are = λ name start. absurd (false≢true (sym (starts name) ∙ start));

@@ -25,7 +25,7 @@ use Rattle.core_layers.proofs.Exports.{mixed_is_safe, epochs-wrote}
 use Rattle.core_node.proofs.Rests.{mixes_keep}
 use Rattle.toy_image.specs.declared.numbers.Numbers.{Numbers}
 use Rattle.toy_core.specs.declared.toy.Toy.{Toy}
-use Rattle.toy_image.specs.Images.{no_bitmaps, IsSuited, IsImage, disk_in, IsLike, GuestBytesAreFree, IsVersionOf}
+use Rattle.toy_image.specs.Images.{IsSuited, IsImage, disk_in, IsLike, GuestBytesAreFree, IsVersionOf}
 use Rattle.toy_core.specs.Toy.{machine_of, IsHeld, IsNamed}
 use Rattle.toy_image.proofs.Free.{guest_bytes_are_free}
 use Rattle.toy_core.proofs.Outcomes.{outcome_mixed}
@@ -63,10 +63,10 @@ sized t h n is s = sym (length-now h s.history_is.inside) ∙ is
 
 -- each crash now leaves a mix of the disks
 pub mixed_now : (t : Toy) (h : History) (disks : List (List ℕ)) (file : List ℕ) (w : World) → GuestBytesAreFree → IsSuited t.source.image → IsImage t.source.image (now h) file → length h.start ≡ t.source.image.size → Mixes h disks
-    → EachVersion (IsVersionOf t.source.image disks file) (versions w t.source.file.0) → EachNow w t.source.file.0 (IsMixed no_bitmaps t.source.image.id (directory t) disks)
+    → EachVersion (IsVersionOf t.source.image disks file) (versions w t.source.file.0) → EachNow w t.source.file.0 (IsMixed t.source.image.id (directory t) disks)
 mixed_now t h disks file w free suits image size mixes each c left = outcome_mixed t.source.image h disks file (versions w t.source.file.0) c free suits image size mixes each left
 
-pub held_now : {t : Toy} {w : World} {h : History} {disks : List (List ℕ)} → IsHeld t w h disks → EachNow w t.source.file.0 (IsMixed no_bitmaps t.source.image.id (directory t) disks)
+pub held_now : {t : Toy} {w : World} {h : History} {disks : List (List ℕ)} → IsHeld t w h disks → EachNow w t.source.file.0 (IsMixed t.source.image.id (directory t) disks)
 held_now {t} {w} {h} {disks} k = mixed_now t h disks (w.seen t.source.file.0) w guest_bytes_are_free k.suits k.image (sized t h t.source.image.size k.image.size_is k.sound) k.mixes k.each
 
 -- ---- one disk more
@@ -149,17 +149,17 @@ module _ (t : Toy) (old new : World) (h : History) (disks : List (List ℕ)) (at
   pub mixes_after : Mixes written more
   mixes_after = record { among = Contains-push disks (now written); alike = All-weaker (IsLikeDisk h) (IsLikeDisk written) (λ d is. record { long = is.long; whole = is.whole }) more mixes_within.alike }
 
-  before : EachNow old t.source.file.0 (IsMixed no_bitmaps t.source.image.id (directory t) more)
+  before : EachNow old t.source.file.0 (IsMixed t.source.image.id (directory t) more)
   before = mixed_now t h more (old.seen t.source.file.0) old guest_bytes_are_free k.suits k.image size mixes_within
       (each_more (IsVersionOf t.source.image disks (old.seen t.source.file.0)) (IsVersionOf t.source.image more (old.seen t.source.file.0)) (versions old t.source.file.0) (λ u has. version_more (now written) has) k.each)
 
-  after : EachNow new t.source.file.0 (IsMixed no_bitmaps t.source.image.id (directory t) more)
+  after : EachNow new t.source.file.0 (IsMixed t.source.image.id (directory t) more)
   after = mixed_now t written more (new.seen t.source.file.0) new guest_bytes_are_free k.suits image_after size mixes_after each_after
 
   -- each crash within it is safe for the history before it
-  pub write_crashes : EachSince new old.now t.source.file.0 (IsSafe no_bitmaps (directory t ∷ []) t.source.image.id h more)
-  write_crashes = since_more new old.now t.source.file.0 (IsMixed no_bitmaps t.source.image.id (directory t) more) (IsSafe no_bitmaps (directory t ∷ []) t.source.image.id h more)
-      (λ c m. mixed_is_safe k.sound.history_is k.epochs mixes_within.among m) (since_step old new t.source.file.0 (IsMixed no_bitmaps t.source.image.id (directory t) more) call.steps before after)
+  pub write_crashes : EachSince new old.now t.source.file.0 (IsSafe (directory t ∷ []) t.source.image.id h more)
+  write_crashes = since_more new old.now t.source.file.0 (IsMixed t.source.image.id (directory t) more) (IsSafe (directory t ∷ []) t.source.image.id h more)
+      (λ c m. mixed_is_safe k.sound.history_is k.epochs mixes_within.among m) (since_step old new t.source.file.0 (IsMixed t.source.image.id (directory t) more) call.steps before after)
 
   pub write_holds : (event : ℕ) (broken : Option ℕ) → sound.IsSound (machine_of (moved t event broken) written) → IsHeld (moved t event broken) new written more
   write_holds event broken sound_after = record {
@@ -191,11 +191,11 @@ still_holds t old new h disks event broken k sound_after tells named seen same =
 }
 
 pub still_crashes : (t : Toy) (old new : World) (h : History) (disks : List (List ℕ)) → IsHeld t old h disks → StepsWithin old new t.source.file.0 → versions new t.source.file.0 ≡ versions old t.source.file.0
-    → EachSince new old.now t.source.file.0 (IsSafe no_bitmaps (directory t ∷ []) t.source.image.id h disks)
+    → EachSince new old.now t.source.file.0 (IsSafe (directory t ∷ []) t.source.image.id h disks)
 still_crashes t old new h disks k steps same =
-    since_more new old.now t.source.file.0 (IsMixed no_bitmaps t.source.image.id (directory t) disks) (IsSafe no_bitmaps (directory t ∷ []) t.source.image.id h disks)
+    since_more new old.now t.source.file.0 (IsMixed t.source.image.id (directory t) disks) (IsSafe (directory t ∷ []) t.source.image.id h disks)
     (λ c m. mixed_is_safe k.sound.history_is k.epochs k.mixes.among m)
-    (since_step old new t.source.file.0 (IsMixed no_bitmaps t.source.image.id (directory t) disks) steps (held_now k) (λ c left. held_now k c (subst (λ (vs : List (List ℕ)). IsOutcome vs c) same left)))
+    (since_step old new t.source.file.0 (IsMixed t.source.image.id (directory t) disks) steps (held_now k) (λ c left. held_now k c (subst (λ (vs : List (List ℕ)). IsOutcome vs c) same left)))
 
 -- ---- a sync that succeeded
 
@@ -229,10 +229,10 @@ module _ (t : Toy) (old new : World) (h : History) (disks : List (List ℕ)) (k 
         alone;
   }
 
-  after_it : EachNow new t.source.file.0 (IsSafe no_bitmaps (directory t ∷ []) t.source.image.id h disks)
+  after_it : EachNow new t.source.file.0 (IsSafe (directory t ∷ []) t.source.image.id h disks)
   after_it c left = mixed_is_safe k.sound.history_is k.epochs k.mixes.among (widened (outcome_mixed t.source.image h (now h ∷ []) (old.seen t.source.file.0) (versions new t.source.file.0) c guest_bytes_are_free k.suits k.image (sized t h t.source.image.size k.image.size_is k.sound) alike alone left))
     where
-      widened : IsMixed no_bitmaps t.source.image.id (directory t) (now h ∷ []) c → IsMixed no_bitmaps t.source.image.id (directory t) disks c
+      widened : IsMixed t.source.image.id (directory t) (now h ∷ []) c → IsMixed t.source.image.id (directory t) disks c
       widened m = record {
         disk = m.disk;
         kept = subst (Kept disks) (sym (last_kept k.suits.sectors (now h) m.disk (k.image.size_is ∙ k.suits.size_is) m.kept)) (mixes_keep k.sound.history_is k.mixes);
@@ -240,6 +240,6 @@ module _ (t : Toy) (old new : World) (h : History) (disks : List (List ℕ)) (k 
         in_use = m.in_use;
       }
 
-  pub synced_crashes : EachSince new old.now t.source.file.0 (IsSafe no_bitmaps (directory t ∷ []) t.source.image.id h disks)
-  synced_crashes = since_step old new t.source.file.0 (IsSafe no_bitmaps (directory t ∷ []) t.source.image.id h disks) (steps_within old new t.source.file.0 call.steps)
+  pub synced_crashes : EachSince new old.now t.source.file.0 (IsSafe (directory t ∷ []) t.source.image.id h disks)
+  synced_crashes = since_step old new t.source.file.0 (IsSafe (directory t ∷ []) t.source.image.id h disks) (steps_within old new t.source.file.0 call.steps)
       (λ c left. mixed_is_safe k.sound.history_is k.epochs k.mixes.among (held_now k c left)) after_it

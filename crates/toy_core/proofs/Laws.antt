@@ -5,14 +5,13 @@ use Rattle.disk_model.specs.World.{World, Holds}
 use Rattle.plain_model.specs.History.{History, now}
 use Rattle.image_model.specs.Space.{Store}
 use Rattle.plain_model.specs.Jobs.{Job}
-use Rattle.plain_model.specs.Laws.{IsShapedEntry}
+use Rattle.bitmap_model.specs.Bitmaps.{IsShapedEntry}
 use Rattle.image_model.specs.Images.{IsSourceOf}
 use Rattle.core_node.specs.Standing.{TargetFile, StandsFor, TargetStands, HasEntry, Spares}
 use Rattle.core_node.specs.Rest.{State, Mixes, IsReady, IsSafe, in_session}
 use Rattle.core_node.specs.Ends.{HasShape}
 use Rattle.core_layers.proofs.Exports.{mixed_is_safe, reads_ready}
 use Rattle.toy_core.specs.declared.toy.Toy.{Toy}
-use Rattle.toy_image.specs.Images.{no_bitmaps}
 use Rattle.toy_core.specs.Toy.{shown, machine_of, state_of, IsHeld, Keeps, IsNamed}
 use Rattle.toy_core.proofs.Outcomes.{image_in_order}
 use Rattle.toy_core.proofs.Holding.{directory, sized, held_now, still_holds}
@@ -33,8 +32,8 @@ stands t w = at_state (λ s. StandsFor (shown t) w s.machine) (λ h disks k. rec
   targets = λ told. All-nil (λ (j : Job). TargetStands w (machine_of t h) j (w.found j.target));
 })
 
-pub safe : (t : Toy) (w : World) (s : State) → Keeps t w s → Holds (shown t).file (IsReady no_bitmaps (in_session s) (shown t).id s.machine.history) (IsSafe no_bitmaps (in_session s) (shown t).id s.machine.history s.disks) w
-safe t w = at_state (λ s. Holds t.source.file.0 (IsReady no_bitmaps (in_session s) t.source.image.id s.machine.history) (IsSafe no_bitmaps (in_session s) t.source.image.id s.machine.history s.disks) w) (λ h disks k. record {
+pub safe : (t : Toy) (w : World) (s : State) → Keeps t w s → Holds (shown t).file (IsReady (in_session s) (shown t).id s.machine.history) (IsSafe (in_session s) (shown t).id s.machine.history s.disks) w
+safe t w = at_state (λ s. Holds t.source.file.0 (IsReady (in_session s) t.source.image.id s.machine.history) (IsSafe (in_session s) t.source.image.id s.machine.history s.disks) w) (λ h disks k. record {
   seen = λ told. reads_ready {d = directory t} k.sound.history_is k.epochs (image_in_order t.source.image (now h) (w.seen t.source.file.0) k.suits k.image, λ e here trusted. omega (arith, here.1));
   each = λ c left. mixed_is_safe {d = directory t} k.sound.history_is k.epochs k.mixes.among (held_now k c left);
 })

@@ -32,7 +32,7 @@ use Rattle.core_layers.proofs.Exports.{found_opens}
 use Rattle.toy_image.specs.declared.image.NotLooked.{NotLooked}
 use Rattle.toy_image.specs.declared.image.NotLooked.TheVariants as unlooked
 use Rattle.toy_image.specs.declared.numbers.Numbers.{Numbers}
-use Rattle.toy_image.specs.Images.{no_bitmaps, store_of, IsSuited, IsImage, IsImageOf, IsVersionOf, Opens, IsLooked, NotLookedFor, raised, Raises, HasNextEpoch}
+use Rattle.toy_image.specs.Images.{store_of, IsSuited, IsImage, IsImageOf, IsVersionOf, Opens, IsLooked, NotLookedFor, raised, Raises, HasNextEpoch}
 use Rattle.toy_image.proofs.Raising.{raises}
 use Rattle.toy_core.specs.declared.toy.Toy.{Toy}
 use Rattle.toy_core.specs.Toy.{shown, machine_of, state_of, IsHeld, IsNamed, Keeps, IsUnopened}
@@ -102,7 +102,7 @@ module _ {n : Numbers} {file disk id : List ℕ} {h : History} {o : Opening} (su
 -- ---- what calls leave
 
 -- calls that read leave the image as it was
-pub open_reads : {file : ℕ} {d : Directory} {id : List ℕ} {h : History} {old new : World} → Runs (reads_of file) old new → IsReady no_bitmaps (d ∷ []) id h (old.seen file) → OpensWithin no_bitmaps file d id h old new
+pub open_reads : {file : ℕ} {d : Directory} {id : List ℕ} {h : History} {old new : World} → Runs (reads_of file) old new → IsReady (d ∷ []) id h (old.seen file) → OpensWithin file d id h old new
 open_reads {file} {d} {id} {h} {old} {new} run ready = record {
   since = record {
     moment = new.now + 1;
@@ -111,10 +111,10 @@ open_reads {file} {d} {id} {h} {old} {new} run ready = record {
     before = λ k low below high. (run.files file (λ none. none)).moments k low high;
     since = λ k low high. absurd (omega (arith, low, high));
   };
-  seen = subst (IsReady no_bitmaps (d ∷ marked d ∷ []) id h) (sym ((run.files file (λ none. none)).seen)) (ready_more (λ x is. allows_left (d ∷ []) (marked d ∷ []) x is) ready);
+  seen = subst (IsReady (d ∷ marked d ∷ []) id h) (sym ((run.files file (λ none. none)).seen)) (ready_more (λ x is. allows_left (d ∷ []) (marked d ∷ []) x is) ready);
 }
 
-directory_is : {n : Numbers} {file id disk : List ℕ} {h : History} {d : Directory} → IsImage n disk file → (ready : IsReady no_bitmaps (d ∷ []) id h file) → directory_in n ≡ d
+directory_is : {n : Numbers} {file id disk : List ℕ} {h : History} {d : Directory} → IsImage n disk file → (ready : IsReady (d ∷ []) id h file) → directory_in n ≡ d
 directory_is {n} {file} {id} {disk} {h} {d} image ready = by_cases ready.allowed
   where
     same : directory_in n ≡ directory_of ready.opening
@@ -125,28 +125,28 @@ directory_is {n} {file} {id} {disk} {h} {d} image ready = by_cases ready.allowed
     by_cases (inr none) = absurd none
 
 -- an image in order is so for the names that a history gives it
-as_found : {n : Numbers} {file id disk : List ℕ} {h : History} {d : Directory} (image : IsImage n disk file) (ready : IsReady no_bitmaps (d ∷ []) id h file) {other : List ℕ} {x : Directory} → IsInOrder no_bitmaps n.id x disk other → IsInOrder no_bitmaps id x (now h) other
+as_found : {n : Numbers} {file id disk : List ℕ} {h : History} {d : Directory} (image : IsImage n disk file) (ready : IsReady (d ∷ []) id h file) {other : List ℕ} {x : Directory} → IsInOrder n.id x disk other → IsInOrder id x (now h) other
 as_found {n} {file} {id} {disk} {h} {d} image ready {other} {x} is =
-    subst (λ (disk : List ℕ). IsInOrder no_bitmaps id x disk other) (one_disk parts.Source file disk (now h) image.source.stands ready.finds.source.stands)
-    (subst (λ (name : List ℕ). IsInOrder no_bitmaps name x disk other) (sym (one_id ready.finds.source image.source)) is)
+    subst (λ (disk : List ℕ). IsInOrder id x disk other) (one_disk parts.Source file disk (now h) image.source.stands ready.finds.source.stands)
+    (subst (λ (name : List ℕ). IsInOrder name x disk other) (sym (one_id ready.finds.source image.source)) is)
 
 raised_suits : {n : Numbers} → IsSuited n → IsSuited (raised n)
 raised_suits suits = record { first = suits.first; base_is = suits.base_is; sectors = suits.sectors; size_is = suits.size_is; shape = suits.shape; near = suits.near }
 
 module _ {n : Numbers} {file : ℕ} {disk id : List ℕ} (sector : List ℕ) {h : History} {d : Directory} {old mid new : World} (suits : IsSuited n) (image : IsImage n disk (old.seen file)) (raise : IsImage (raised n) disk (overlay (old.seen file) 0 sector)) (history : IsHistory h)
-    (ready : IsReady no_bitmaps (d ∷ []) id h (old.seen file)) (reads : Runs (reads_of file) old mid) (writes : Runs (writes_of file) mid new) where
+    (ready : IsReady (d ∷ []) id h (old.seen file)) (reads : Runs (reads_of file) old mid) (writes : Runs (writes_of file) mid new) where
   same_seen : mid.seen file ≡ old.seen file
   same_seen = (reads.files file (λ none. none)).seen
 
-  found : (c : List ℕ) → (c ≡ mid.seen file) ⊎ (c ≡ overlay (mid.seen file) 0 sector) → IsFound no_bitmaps id d (now h) c
-  found c (inl is) = inl (subst (IsInOrder no_bitmaps id d (now h)) (sym (is ∙ same_seen))
-      (subst (λ (x : Directory). IsInOrder no_bitmaps id x (now h) (old.seen file)) (directory_is image ready) (as_found image ready (image_in_order n disk (old.seen file) suits image))))
-  found c (inr is) = inr (subst (IsInOrder no_bitmaps id (marked d) (now h)) (sym (is ∙ ap (λ (file : List ℕ). overlay file 0 sector) same_seen))
-      (subst (λ (x : Directory). IsInOrder no_bitmaps id (marked x) (now h) (overlay (old.seen file) 0 sector)) (directory_is image ready) (as_found image ready (image_in_order (raised n) disk (overlay (old.seen file) 0 sector) (raised_suits suits) raise))))
+  found : (c : List ℕ) → (c ≡ mid.seen file) ⊎ (c ≡ overlay (mid.seen file) 0 sector) → IsFound id d (now h) c
+  found c (inl is) = inl (subst (IsInOrder id d (now h)) (sym (is ∙ same_seen))
+      (subst (λ (x : Directory). IsInOrder id x (now h) (old.seen file)) (directory_is image ready) (as_found image ready (image_in_order n disk (old.seen file) suits image))))
+  found c (inr is) = inr (subst (IsInOrder id (marked d) (now h)) (sym (is ∙ ap (λ (file : List ℕ). overlay file 0 sector) same_seen))
+      (subst (λ (x : Directory). IsInOrder id (marked x) (now h) (overlay (old.seen file) 0 sector)) (directory_is image ready) (as_found image ready (image_in_order (raised n) disk (overlay (old.seen file) 0 sector) (raised_suits suits) raise))))
 
-  pub open_writes : EachSinceSync mid new file (λ c. (c ≡ mid.seen file) ⊎ (c ≡ overlay (mid.seen file) 0 sector)) → (new.seen file ≡ mid.seen file) ⊎ (new.seen file ≡ overlay (mid.seen file) 0 sector) → OpensWithin no_bitmaps file d id h old new
+  pub open_writes : EachSinceSync mid new file (λ c. (c ≡ mid.seen file) ⊎ (c ≡ overlay (mid.seen file) 0 sector)) → (new.seen file ≡ mid.seen file) ⊎ (new.seen file ≡ overlay (mid.seen file) 0 sector) → OpensWithin file d id h old new
   open_writes crash seen = found_opens file old new history ready
-      (sync_more (λ c. (c ≡ mid.seen file) ⊎ (c ≡ overlay (mid.seen file) 0 sector)) (IsFound no_bitmaps id d (now h)) found (spared_sync file _ reads writes (λ none. none) crash))
+      (sync_more (λ c. (c ≡ mid.seen file) ⊎ (c ≡ overlay (mid.seen file) 0 sector)) (IsFound id d (now h)) found (spared_sync file _ reads writes (λ none. none) crash))
       (found (new.seen file) seen)
 
 -- ---- the session begins
@@ -156,7 +156,7 @@ next_epoch epoch (timelines.Wrote extent) is = tt
 next_epoch epoch (timelines.Reached p) is = omega (arith, is)
 
 module _ (n : Numbers) (t : Toy) (disk id sector : List ℕ) (h : History) (allows : List Directory) (old mid new : World) (suits : IsSuited n) (image : IsImage n disk (old.seen t.source.file.0)) (raise : IsImage (raised n) disk (overlay (old.seen t.source.file.0) 0 sector))
-    (history : IsHistory h) (ready : IsReady no_bitmaps allows id h (old.seen t.source.file.0)) (source_is : t.source.image ≡ raised n) (event_is : t.event ≡ 0) (broken_is : t.broken ≡ None) (told : IsTrue old.tells)
+    (history : IsHistory h) (ready : IsReady allows id h (old.seen t.source.file.0)) (source_is : t.source.image ≡ raised n) (event_is : t.event ≡ 0) (broken_is : t.broken ≡ None) (told : IsTrue old.tells)
     (named : IsNamed t.source.file.0 old) (reads : Runs (reads_of t.source.file.0) old mid) (writes : Runs (writes_of t.source.file.0) mid new)
     (seen : new.seen t.source.file.0 ≡ overlay (mid.seen t.source.file.0) 0 sector) (each : EachVersion (λ v. v ≡ new.seen t.source.file.0) (versions new t.source.file.0)) where
   none : ready.opening.entries ≡ []
@@ -207,7 +207,7 @@ module _ (n : Numbers) (t : Toy) (disk id sector : List ℕ) (h : History) (allo
     each = each_more (λ v. v ≡ new.seen t.source.file.0) (IsVersionOf t.source.image (now h ∷ []) (new.seen t.source.file.0)) (versions new t.source.file.0) version_now each;
   }
 
-  pub node_begins : n.epoch < 2 ^ 64 - 1 → NodeBegins no_bitmaps allows (shown t) (Keeps t new) t.source.file.0 id h old
+  pub node_begins : n.epoch < 2 ^ 64 - 1 → NodeBegins allows (shown t) (Keeps t new) t.source.file.0 id h old
   node_begins left = record {
     id_is = ap (λ (m : Numbers). m.id) source_is ∙ sym (id_is suits image ready.finds none);
     opening = ready.opening;
@@ -251,7 +251,7 @@ module _ {n : Numbers} {header : Header} {f : ℕ} {sector : List ℕ} {a b z : 
   long_by told = subst (λ (c : List ℕ). 512 ≤ length c) (sym ((call.look.files f (λ none. none)).seen)) (raised_by told).long
 
   pub within : (Gives (file_of b f) (λ c. 512 ≤ length c) → EachSinceSync b z f (OldOrNew sector (file_of b f))) → (Gives (file_of b f) (λ c. 512 ≤ length c) → Gives (file_of z f) (OldOrNew sector (file_of b f)))
-      → (d : Directory) (id : List ℕ) (h : History) → IsTrue a.tells → IsHistory h → IsReady no_bitmaps (d ∷ []) id h (a.seen f) → OpensWithin no_bitmaps f d id h a z
+      → (d : Directory) (id : List ℕ) (h : History) → IsTrue a.tells → IsHistory h → IsReady (d ∷ []) id h (a.seen f) → OpensWithin f d id h a z
   unfolding file_of
   within crash seen d id h told history ready =
       let im = image_of told in
@@ -259,7 +259,7 @@ module _ {n : Numbers} {header : Header} {f : ℕ} {sector : List ℕ} {a b z : 
       open_writes sector im.suits im.image ((raised_by told).image im.disk im.image) history ready call.look call.raise (crash (λ _. long)) (seen (λ _. long) (subst IsTrue (sym (call.raise.goes.tells ∙ call.look.goes.tells)) told))
 
   pub was_opened : (t : Toy) → t.source.file.0 ≡ f → t.source.image ≡ raised n → t.event ≡ 0 → t.broken ≡ None → f < a.given → Is (New sector (file_of b f)) (file_of z f) → IsSettled (file_of z f)
-      → Opened no_bitmaps f (shown t) (Keeps t z) a z
+      → Opened f (shown t) (Keeps t z) a z
   unfolding file_of
   was_opened t file_is source_is event_is broken_is given done settled = record {
     file_is = file_is;
@@ -271,11 +271,11 @@ module _ {n : Numbers} {header : Header} {f : ℕ} {sector : List ℕ} {a b z : 
     begins = λ allows id h disks told found history holds.
         let im = image_of told in
         let on = subst IsTrue (sym (call.raise.goes.tells ∙ call.look.goes.tells)) told in
-        subst (λ (g : ℕ). NodeBegins no_bitmaps allows (shown t) (Keeps t z) g id h a) file_is
+        subst (λ (g : ℕ). NodeBegins allows (shown t) (Keeps t z) g id h a) file_is
         (node_begins n t im.disk id sector h allows a b z im.suits
         (subst (λ (g : ℕ). IsImage n im.disk (a.seen g)) (sym file_is) im.image)
         (subst (λ (g : ℕ). IsImage (raised n) im.disk (overlay (a.seen g) 0 sector)) (sym file_is) ((raised_by told).image im.disk im.image))
-        history (subst (λ (g : ℕ). IsReady no_bitmaps allows id h (a.seen g)) (sym file_is) (holds.seen told)) source_is event_is broken_is told
+        history (subst (λ (g : ℕ). IsReady allows id h (a.seen g)) (sym file_is) (holds.seen told)) source_is event_is broken_is told
         (subst (λ (g : ℕ). IsNamed g a) (sym file_is) (record { below = given; found = found }))
         (subst (λ (g : ℕ). Runs (reads_of g) a b) (sym file_is) call.look) (subst (λ (g : ℕ). Runs (writes_of g) b z) (sym file_is) call.raise)
         (subst (λ (g : ℕ). z.seen g ≡ overlay (b.seen g) 0 sector) (sym file_is) (done.seen on))
@@ -284,13 +284,13 @@ module _ {n : Numbers} {header : Header} {f : ℕ} {sector : List ℕ} {a b z : 
   }
 
 -- the last epoch is refused
-pub last_epoch : (n : Numbers) (header : Header) (f : ℕ) (a b : World) → IsLooked n header a.tells (a.seen f) → (IsTrue a.tells → Opens (a.seen f)) → 2 ^ 64 - 1 ≤ n.epoch → NotOpenedFor unopened.Rule no_bitmaps f a b
+pub last_epoch : (n : Numbers) (header : Header) (f : ℕ) (a b : World) → IsLooked n header a.tells (a.seen f) → (IsTrue a.tells → Opens (a.seen f)) → 2 ^ 64 - 1 ≤ n.epoch → NotOpenedFor unopened.Rule f a b
 last_epoch n header f a b looked opens last = λ told allows id h history ready.
     let im = looked.image told (opens told) in
     subst (λ (e : ℕ). 2 ^ 64 - 1 ≤ e) (one_epoch im.image.source ready.finds.source) last
 
 -- why it isn't known what it is
-pub unopened_for : (why : NotLooked) (shows : NotOpened) (f : ℕ) (a b : World) → IsUnopened shows why → (IsTrue a.tells → Opens (a.seen f)) → NotLookedFor why f a b → NotOpenedFor shows no_bitmaps f a b
-unopened_for unlooked.Other shows f a b is opens not = subst (λ (x : NotOpened). NotOpenedFor x no_bitmaps f a b) (sym is) (λ told allows id h history ready. absurd (not told (opens told)))
-unopened_for unlooked.Failed shows f a b is opens not = subst (λ (x : NotOpened). NotOpenedFor x no_bitmaps f a b) (sym is) not
-unopened_for unlooked.Memory shows f a b is opens not = subst (λ (x : NotOpened). NotOpenedFor x no_bitmaps f a b) (sym is) tt
+pub unopened_for : (why : NotLooked) (shows : NotOpened) (f : ℕ) (a b : World) → IsUnopened shows why → (IsTrue a.tells → Opens (a.seen f)) → NotLookedFor why f a b → NotOpenedFor shows f a b
+unopened_for unlooked.Other shows f a b is opens not = subst (λ (x : NotOpened). NotOpenedFor x f a b) (sym is) (λ told allows id h history ready. absurd (not told (opens told)))
+unopened_for unlooked.Failed shows f a b is opens not = subst (λ (x : NotOpened). NotOpenedFor x f a b) (sym is) not
+unopened_for unlooked.Memory shows f a b is opens not = subst (λ (x : NotOpened). NotOpenedFor x f a b) (sym is) tt

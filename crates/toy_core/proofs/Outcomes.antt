@@ -10,11 +10,11 @@ use Rattle.plain_model.specs.History.{History, now}
 use Rattle.plain_model.specs.Step.{sector}
 use Rattle.plain_model.specs.Lawful.{Kept}
 use Rattle.image_model.specs.Space.{IsShapedStore}
-use Rattle.plain_model.specs.Laws.{IsShapedEntry}
+use Rattle.bitmap_model.specs.Bitmaps.{IsShapedEntry}
 use Rattle.core_node.specs.Rest.{Mixes}
 use Rattle.core_layers.specs.Layers.{IsInOrder, IsMixed}
 use Rattle.toy_image.specs.declared.numbers.Numbers.{Numbers}
-use Rattle.toy_image.specs.Images.{no_bitmaps, store_of, IsSuited, IsImage, disk_in, IsLike, GuestBytesAreFree, IsVersionOf}
+use Rattle.toy_image.specs.Images.{store_of, IsSuited, IsImage, disk_in, IsLike, GuestBytesAreFree, IsVersionOf}
 
 -- a sector of the guest's disk, as a range of the file
 pub sector_read : (t : Numbers) (file : List ℕ) (k sectors : ℕ) → t.size ≡ sectors * 512 → k < sectors → sector (disk_in t file) k ≡ reading file (t.base + 512 * k) 512
@@ -49,7 +49,7 @@ kept_outcome t h disks file vs c suits size inside mixes each left = record {
       (let same = (like_outcome t disks file vs c each left).long in omega (arith, same, inside, whole, here))) each;
 }
 
-pub image_in_order : (t : Numbers) (disk file : List ℕ) → IsSuited t → IsImage t disk file → IsInOrder no_bitmaps t.id (record { epoch = t.epoch; entries = [] }) disk file
+pub image_in_order : (t : Numbers) (disk file : List ℕ) → IsSuited t → IsImage t disk file → IsInOrder t.id (record { epoch = t.epoch; entries = [] }) disk file
 image_in_order t disk file suits image = record {
   store = store_of t;
   source = image.source;
@@ -62,7 +62,7 @@ image_in_order t disk file suits image = record {
 }
 
 pub outcome_mixed : (t : Numbers) (h : History) (disks : List (List ℕ)) (file : List ℕ) (vs : List (List ℕ)) (c : List ℕ) → GuestBytesAreFree → IsSuited t → IsImage t (now h) file → length h.start ≡ t.size → Mixes h disks
-    → EachVersion (IsVersionOf t disks file) vs → IsOutcome vs c → IsMixed no_bitmaps t.id (record { epoch = t.epoch; entries = [] }) disks c
+    → EachVersion (IsVersionOf t disks file) vs → IsOutcome vs c → IsMixed t.id (record { epoch = t.epoch; entries = [] }) disks c
 outcome_mixed t h disks file vs c free suits image size mixes each left = record {
   disk = disk_in t c;
   kept = kept_outcome t h disks file vs c suits size image.inside mixes each left;

@@ -6,7 +6,7 @@ ghost use Rattle.plain_model.specs.History.{History, IsHistory};
 ghost use Rattle.core_node.specs.Standing.{HasFiles};
 ghost use Rattle.core_node.specs.Rest.{Directory, IsReady};
 ghost use Rattle.core_node.specs.Ends.{Opened, OpensWithin, NotOpenedFor};
-ghost use Rattle.toy_image.specs.Images.{no_bitmaps, Opens};
+ghost use Rattle.toy_image.specs.Images.{Opens};
 ghost use Rattle.toy_core.specs.Toy.{IsUnopened, Suits, shown, Keeps};
 
 use crate::toy::{Source, Toy};
@@ -32,10 +32,10 @@ impl Toy {
     /// Begins a session on an image. What is promised of it holds where it is of the form.
     pub fn begin<D: Depot>(alloc: Global, depot: &mut D, file: FileNo) -> Result<Toy, NotOpened>
         requires given { file.0 < (D.world depot.old).given }
-        ensures opened { IfOk result (λ toy. Suits file.0 (D.world depot.old) → Opened no_bitmaps file.0 (shown toy) (Keeps toy (D.world depot.new)) (D.world depot.old) (D.world depot.new)) }
+        ensures opened { IfOk result (λ toy. Suits file.0 (D.world depot.old) → Opened file.0 (shown toy) (Keeps toy (D.world depot.new)) (D.world depot.old) (D.world depot.new)) }
         ensures within { (d : Directory) (id : List ℕ) (h : History) → Suits file.0 (D.world depot.old) → IsTrue (D.world depot.old).tells → IsHistory h →
-            IsReady no_bitmaps (d ∷ []) id h ((D.world depot.old).seen file.0) → OpensWithin no_bitmaps file.0 d id h (D.world depot.old) (D.world depot.new) }
-        ensures cause { IfErr result (λ why. Suits file.0 (D.world depot.old) → NotOpenedFor why no_bitmaps file.0 (D.world depot.old) (D.world depot.new)) }
+            IsReady (d ∷ []) id h ((D.world depot.old).seen file.0) → OpensWithin file.0 d id h (D.world depot.old) (D.world depot.new) }
+        ensures cause { IfErr result (λ why. Suits file.0 (D.world depot.old) → NotOpenedFor why file.0 (D.world depot.old) (D.world depot.new)) }
         ensures files { IfOk result (λ toy. HasFiles (shown toy) (D.world depot.new)) }
         ensures run { Runs (only_file file.0) (D.world depot.old) (D.world depot.new) }
     {

@@ -18,7 +18,6 @@ ghost use Rattle.core_node.specs.Standing.{HasFiles};
 ghost use Rattle.core_node.specs.Step.{DeniesAs, NodeSteps};
 ghost use Rattle.core_node.specs.Rest.{State};
 ghost use Rattle.core_node.specs.Files.{Reading};
-ghost use Rattle.toy_image.specs.Images.{no_bitmaps};
 ghost use Rattle.toy_core.specs.Toy.{Takes, IsBuilt, on_drive, denies, no_targets, shown, Keeps, next, broke};
 
 use crate::toy::Toy;
@@ -67,7 +66,7 @@ impl Toy {
         requires granted { denies self.old (plain_request request.now) ≡ None }
         requires work { request.now.work ≡ work.Write false }
         ensures steps { (bytes : List ℕ) (runs : List Run) → IsTrue (D.world depot.old).tells →
-            NodeSteps no_bitmaps no_targets (shown self.old) (Keeps self.old (D.world depot.old)) (Keeps self.new (D.world depot.new)) (D.world depot.old) (D.world depot.new) (events.Guest (plain_request request.now)) (record { reply = plain_reply result bytes runs; notices = [] }) }
+            NodeSteps no_targets (shown self.old) (Keeps self.old (D.world depot.old)) (Keeps self.new (D.world depot.new)) (D.world depot.old) (D.world depot.new) (events.Guest (plain_request request.now)) (record { reply = plain_reply result bytes runs; notices = [] }) }
         ensures source { SameSource (shown self.old) (shown self.new) }
         ensures run { Runs (writes_of self.old.source.file.0) (D.world depot.old) (D.world depot.new) }
         ensures carried { (held : List ℕ) (runs : List Run) → is_denied (plain_reply result held runs) ≡ false }
@@ -86,7 +85,7 @@ impl Toy {
         requires granted { denies self.old (plain_request request.now) ≡ None }
         requires work { request.now.work ≡ work.Flush }
         ensures steps { (bytes : List ℕ) (runs : List Run) → IsTrue (D.world depot.old).tells →
-            NodeSteps no_bitmaps no_targets (shown self.old) (Keeps self.old (D.world depot.old)) (Keeps self.new (D.world depot.new)) (D.world depot.old) (D.world depot.new) (events.Guest (plain_request request.now)) (record { reply = plain_reply result bytes runs; notices = [] }) }
+            NodeSteps no_targets (shown self.old) (Keeps self.old (D.world depot.old)) (Keeps self.new (D.world depot.new)) (D.world depot.old) (D.world depot.new) (events.Guest (plain_request request.now)) (record { reply = plain_reply result bytes runs; notices = [] }) }
         ensures source { SameSource (shown self.old) (shown self.new) }
         ensures run { Runs (writes_of self.old.source.file.0) (D.world depot.old) (D.world depot.new) }
         ensures carried { (held : List ℕ) (runs : List Run) → is_denied (plain_reply result held runs) ≡ false }
@@ -108,7 +107,7 @@ impl Toy {
         requires work { request.now.work ≡ work.Read }
         requires room { request.now.length ≤ vec_capacity bytes.old }
         ensures steps { (runs : List Run) → IsTrue (D.world depot.old).tells →
-            NodeSteps no_bitmaps no_targets (shown self.old) (Keeps self.old (D.world depot.old)) (Keeps self.new (D.world depot.new)) (D.world depot.old) (D.world depot.new) (events.Guest (plain_request request.now)) (record { reply = plain_reply result bytes.new.items runs; notices = [] }) }
+            NodeSteps no_targets (shown self.old) (Keeps self.old (D.world depot.old)) (Keeps self.new (D.world depot.new)) (D.world depot.old) (D.world depot.new) (events.Guest (plain_request request.now)) (record { reply = plain_reply result bytes.new.items runs; notices = [] }) }
         ensures source { SameSource (shown self.old) (shown self.new) }
         ensures run { Runs (reads_of self.old.source.file.0) (D.world depot.old) (D.world depot.new) }
         ensures carried { (held : List ℕ) (runs : List Run) → is_denied (plain_reply result held runs) ≡ false }
@@ -130,7 +129,7 @@ impl Toy {
         requires built { IsBuilt request.now.work }
         requires room { bytes_of_work request.now.work request.now.length ≤ vec_capacity bytes.old }
         ensures steps { (runs : List Run) → IsTrue (D.world depot.old).tells →
-            NodeSteps no_bitmaps no_targets (shown self.old) (Keeps self.old (D.world depot.old)) (Keeps self.new (D.world depot.new)) (D.world depot.old) (D.world depot.new) (events.Guest (plain_request request.now)) (record { reply = plain_reply result bytes.new.items runs; notices = [] }) }
+            NodeSteps no_targets (shown self.old) (Keeps self.old (D.world depot.old)) (Keeps self.new (D.world depot.new)) (D.world depot.old) (D.world depot.new) (events.Guest (plain_request request.now)) (record { reply = plain_reply result bytes.new.items runs; notices = [] }) }
         ensures denied { (runs : List Run) → DeniesAs (shown self.old) (events.Guest (plain_request request.now)) (record { reply = plain_reply result bytes.new.items runs; notices = [] }) }
         ensures source { SameSource (shown self.old) (shown self.new) }
         ensures run { (runs : List Run) → Runs (works_on (shown self.old) (shown self.new) (D.world depot.new) (events.Guest (plain_request request.now)) (record { reply = plain_reply result bytes.new.items runs; notices = [] })) (D.world depot.old) (D.world depot.new) }
@@ -158,7 +157,7 @@ impl Toy {
         requires takes { Takes (plain_event event.now) }
         requires room { bytes_needed event.now ≤ vec_capacity bytes.old }
         ensures steps { IfOk result (λ reply. (runs : List Run) → IsTrue (D.world depot.old).tells →
-            NodeSteps no_bitmaps no_targets (shown self.old) (Keeps self.old (D.world depot.old)) (Keeps self.new (D.world depot.new)) (D.world depot.old) (D.world depot.new) (plain_event event.now) (record { reply = plain_reply reply bytes.new.items runs; notices = [] })) }
+            NodeSteps no_targets (shown self.old) (Keeps self.old (D.world depot.old)) (Keeps self.new (D.world depot.new)) (D.world depot.old) (D.world depot.new) (plain_event event.now) (record { reply = plain_reply reply bytes.new.items runs; notices = [] })) }
         ensures denied { IfOk result (λ reply. (runs : List Run) → DeniesAs (shown self.old) (plain_event event.now) (record { reply = plain_reply reply bytes.new.items runs; notices = [] })) }
         ensures command { OnErr result (IsTrue (is_command (plain_event event.now))) }
         ensures kept { OnErr result (self.new ≡ self.old) }
@@ -190,7 +189,7 @@ impl Toy {
         requires takes { Takes (plain_event event.now) }
         requires files { HasFiles (shown self.old) (D.world depot.old) }
         ensures steps { OnOk result (IsTrue (D.world depot.old).tells →
-            NodeSteps no_bitmaps no_targets (shown self.old) (Keeps self.old (D.world depot.old)) (Keeps self.new (D.world depot.new)) (D.world depot.old) (D.world depot.new) (plain_event event.now) (plain_answer answer.new)) }
+            NodeSteps no_targets (shown self.old) (Keeps self.old (D.world depot.old)) (Keeps self.new (D.world depot.new)) (D.world depot.old) (D.world depot.new) (plain_event event.now) (plain_answer answer.new)) }
         ensures denied { OnOk result (DeniesAs (shown self.old) (plain_event event.now) (plain_answer answer.new)) }
         ensures command { OnErr result (IsTrue (is_command (plain_event event.now))) }
         ensures kept { OnErr result (self.new ≡ self.old) }

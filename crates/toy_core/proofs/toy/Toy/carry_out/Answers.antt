@@ -6,7 +6,6 @@ use Rattle.core_events.specs.declared.events.Event.{Event}
 use Rattle.core_node.specs.Step.{DeniesAs, NodeSteps}
 use Rattle.core_node.specs.Touches.{works_on}
 use Rattle.plain_model.specs.Machine.{next_number}
-use Rattle.toy_image.specs.Images.{no_bitmaps}
 use Rattle.toy_core.specs.Toy.{no_targets, shown, Keeps, next}
 use Rattle.toy_core.proofs.Cases.{as_moved, tick_steps}
 use Rattle.toy_core.proofs.toy.Toy.carry_out.Goals as goal
@@ -15,7 +14,7 @@ pub returns-in-Tick-clause-steps : goal.returns-in-Tick-clause-steps
 returns-in-Tick-clause-steps g c = λ runs told.
     let t = c.args.self.now in
     let w = g.D.Outside.world c.args.depot.now in
-    as_moved {t = t} {old = w} {new = w} {event = plain_event c.args.event.now} {answer = record { reply = Done; notices = [] }} c.saturating_add-self.result (next_number t.event) t.broken c.saturating_add-self.ensures (subst (λ (e : Event). NodeSteps no_bitmaps no_targets (shown t) (Keeps t w) (Keeps (next t) w) w w (plain_event e) (record { reply = Done; notices = [] })) (sym c.in-Tick.is) (tick_steps t w told))
+    as_moved {t = t} {old = w} {new = w} {event = plain_event c.args.event.now} {answer = record { reply = Done; notices = [] }} c.saturating_add-self.result (next_number t.event) t.broken c.saturating_add-self.ensures (subst (λ (e : Event). NodeSteps no_targets (shown t) (Keeps t w) (Keeps (next t) w) w w (plain_event e) (record { reply = Done; notices = [] })) (sym c.in-Tick.is) (tick_steps t w told))
 
 pub returns-in-Guest-clause-denied : goal.returns-in-Guest-clause-denied
 returns-in-Guest-clause-denied g c = λ runs.
