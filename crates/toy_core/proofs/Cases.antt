@@ -4,7 +4,7 @@ use Rattle.std.specs.Prelude.{if◌then◌else◌, is_none, nat_lt}
 use Rattle.std.proofs.lemmas.Bool.{cases_Bool, false≢true, or_parts}
 use Rattle.disk_model.specs.Files.{reading}
 use Rattle.disk_model.specs.World.{World, versions, IsSound, Runs, nothing, reads_of, writes_of, Writes, HasWritten, Syncs, HasSynced, Rose, EachSince}
-use Rattle.disk_model.proofs.Laws.{stay, run_more, spared, since_more}
+use Rattle.disk_model.proofs.Laws.{stay, run_more, spared, since_more, sync_leads}
 use Rattle.disk_model.proofs.Laws.{each_more, reading_written}
 use Rattle.core_events.specs.Events.{Request, Event, Guest, Monitor, Tick}
 use Rattle.core_events.specs.declared.events.Work.{Work}
@@ -26,7 +26,11 @@ use Rattle.plain_model.proofs.Steps.{guest_outcome, tick_outcome}
 use Rattle.plain_model.specs.Jobs.{Job}
 use Rattle.plain_model.specs.Requests.{is_flush}
 use Rattle.core_node.specs.Standing.{Shown, SameNumbers, SameBitmaps, shown_view}
-use Rattle.core_node.specs.Step.{DeniesAs, kept_during, NodeSteps}
+use Rattle.plain_model.specs.Faults.{is_io_errno}
+use Rattle.core_node.specs.Causes.{Causes}
+use Rattle.core_node.proofs.Causing.{quiet_causes}
+use Rattle.core_node.proofs.Keeping.{still_leads}
+use Rattle.core_node.specs.Step.{HasHead, DeniesAs, kept_during, NodeSteps}
 use Rattle.core_node.specs.Touches.{works_on, is_denied}
 use Rattle.core_node.specs.Rest.{IsSafe}
 use Rattle.core_node.specs.Files.{Reading}
@@ -38,7 +42,7 @@ use Rattle.toy_core.specs.Toy.{IsBuilt, on_drive, is_bad, denies, shown, machine
 use Rattle.toy_core.proofs.Space.{store_stays, freed_is}
 use Rattle.toy_core.proofs.Served.{by_shape, reply_with, place_is, denial_is, fate_denied, fate_is, denied, wrote, tore, flushed, broken_by, unread, has_read, ticked}
 use Rattle.toy_image.proofs.Free.{guest_bytes_are_free}
-use Rattle.toy_core.proofs.Holding.{directory, named_on, moved, disk_is, sized, mixes_more, version_more, write_holds, write_crashes, torn_after, still_holds, still_crashes, synced_holds, synced_crashes}
+use Rattle.toy_core.proofs.Holding.{directory, named_on, moved, disk_is, sized, mixes_more, version_more, write_holds, write_head, write_crashes, torn_after, still_holds, still_crashes, synced_holds, synced_crashes}
 use Rattle.toy_core.proofs.Rises.{rise_of, is_rise, rose_up, rose_at, quiet, faulty, denied_counts}
 use Rattle.toy_core.proofs.Going.{Leaves, Served, steps}
 
@@ -56,6 +60,7 @@ hold_more t w h disks k = record {
   mixes = mixes_more (now h) (record { long = k.image.size_is ∙ sym (sized t h t.source.image.size k.image.size_is k.sound); whole = (k.suits.sectors, k.image.size_is ∙ k.suits.size_is) }) k.mixes;
   epochs = k.epochs;
   image = k.image;
+  clear = k.clear;
   each = each_more (IsVersionOf t.source.image disks (w.seen t.source.file.0)) (IsVersionOf t.source.image (disks ++ now h ∷ []) (w.seen t.source.file.0)) (versions w t.source.file.0) (λ u has. version_more (now h) has) k.each;
 }
 
@@ -86,6 +91,7 @@ still t n broken old new h disks after event k tells named seen same before is =
   crashes = since_more new old.now t.source.file.0 (IsSafe (directory t ∷ []) t.source.image.id h disks) (IsSafe (directory t ∷ []) t.source.image.id h (kept_during disks event (now h)))
       (λ c s. safe_during t h disks event c (k.image.size_is ∙ sym (sized t h t.source.image.size k.image.size_is k.sound)) s)
       (still_crashes t old new h disks k (λ i low high. inl (before i low high)) same);
+  head = λ sector. still_leads (HasHead sector) (HasHead sector) tells seen same (λ i low high. inl (before i low high));
 }
 
 unchanged : (t : Toy) (n : ℕ) (broken : Option ℕ) (h next : History) → IsChanged (machine_of t h) (no_change (machine_of t h)) (machine_of (moved t n broken) next)
@@ -189,7 +195,7 @@ module _ (t : Toy) (r : Request) (built : IsBuilt r.work) (has : HasBytes r r.wo
 
     -- ---- a write
 
-    module _ (work : r.work ≡ Write false) (old new : World) (told : IsTrue old.tells) (sound_new : IsSound new) (call : Writes t.source.file.0 (t.source.image.base + r.offset) r.bytes old new) (long : length r.bytes ≡ r.length) (range : r.offset + r.length ≤ t.source.image.size) where
+    module _ (work : r.work ≡ Write false) (old new : World) (told : IsTrue old.tells) (sound_old : IsSound old) (sound_new : IsSound new) (call : Writes t.source.file.0 (t.source.image.base + r.offset) r.bytes old new) (long : length r.bytes ≡ r.length) (range : r.offset + r.length ≤ t.source.image.size) where
       fits : r.offset + length r.bytes ≤ t.source.image.size
       fits = omega (arith, long, range)
 
@@ -209,6 +215,7 @@ module _ (t : Toy) (r : Request) (built : IsBuilt r.work) (has : HasBytes r r.wo
       write_leaves ok h disks k = record {
         holds = λ s. subst (IsHeld (next t) new (grow h)) (sym (after_is ok disks (now (grow h)))) (write_holds t old new h disks r.offset r.bytes k sound_new call fits (next t).event t.broken s);
         crashes = subst (λ (ds : List (List ℕ)). EachSince new old.now t.source.file.0 (IsSafe (directory t ∷ []) t.source.image.id h ds)) (sym (during_is disks (now (grow h)))) (write_crashes t old new h disks r.offset r.bytes k sound_new call fits);
+        head = λ sector. write_head t old new h disks r.offset r.bytes k sound_new call fits sector sound_old;
       }
 
       only : (g : ℕ) → (writes_of t.source.file.0).files g → g ≡ t.source.file.0
@@ -278,6 +285,7 @@ module _ (t : Toy) (r : Request) (built : IsBuilt r.work) (has : HasBytes r r.wo
               leaves = record {
                 holds = λ s. subst (IsHeld (next t) new h) (sym (ap (λ (w : Work). disks_after disks w true (now h)) work)) (synced_holds t old new h disks k sound_old call done (next t).event t.broken s);
                 crashes = subst (λ (ds : List (List ℕ)). EachSince new old.now t.source.file.0 (IsSafe (directory t ∷ []) t.source.image.id h ds)) (sym (same_during disks (now h))) (synced_crashes t old new h disks k sound_old call done);
+                head = λ sector. sync_leads (HasHead sector) (HasHead sector) (HasHead sector) sound_old call (λ c is. is);
               };
             }
 
@@ -441,3 +449,9 @@ flush_left (Write fua) built a b = absurd (b fua refl)
 flush_left (Zero fua no_hole) built a b = absurd built
 flush_left Flush built a b = refl
 flush_left (Status context one) built a b = absurd built
+
+-- ---- why an event met a fault
+
+pub denied_causes : (t : Toy) (r : Request) (errno : Errno) (n : ℕ) (old new : World) → denies t r ≡ Some errno → Causes (shown t) (shown (moved t n t.broken)) old new (record { reply = Fault errno; notices = [] })
+denied_causes t r errno n old new is = quiet_causes refl (λ whole.
+    ap (λ (o : Option ℕ). is_none o && is_io_errno errno) (sym whole) ∙ denied_counts (on_drive r.way) (is_bad t r r.work) t.broken errno is) (λ device. device)

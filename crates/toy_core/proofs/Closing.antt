@@ -12,7 +12,9 @@ use Rattle.plain_model.specs.Closing.{stored_by}
 use Rattle.bitmap_model.specs.Bitmaps.{IsShapedEntry}
 use Rattle.plain_model.specs.Lawful.{IsTrueEntry}
 use Rattle.core_node.specs.Rest.{State, Directory, IsReady, IsSafe, in_session, in_closing, closed_directory}
-use Rattle.core_node.specs.Ends.{Closes, Closed}
+use Rattle.core_node.specs.Ends.{Closes, Closed, KeepsHeader}
+use Rattle.qc_layout.proofs.Directories.{stores_nothing}
+use Rattle.core_node.proofs.Keeping.{same_header}
 use Rattle.core_node.proofs.Rests.{allows_left, ready_more, safe_more}
 use Rattle.toy_image.specs.Images.{store_of}
 use Rattle.toy_core.specs.declared.toy.Toy.{Toy}
@@ -70,8 +72,8 @@ module _ (t : Toy) (old new : World) where
           };
         })
 
-    pub closed_synced : (answer : Answer) → answer.notices ≡ [] → t.broken ≡ None → (s : State) → Keeps t old s → Closed t.source.file.0 t.source.image.id s new answer
-    closed_synced answer none whole = at_state (λ s. Closed t.source.file.0 t.source.image.id s new answer) (λ h disks k.
+    pub closed_synced : (answer : Answer) → answer.notices ≡ [] → t.broken ≡ None → (s : State) → Keeps t old s → Closed t.source.file.0 t.source.image.id s old new answer
+    closed_synced answer none whole = at_state (λ s. Closed t.source.file.0 t.source.image.id s old new answer) (λ h disks k.
         let s = state_of t h (now h ∷ []) in
         let after = synced_holds t old new h disks k sound_old call done t.event t.broken k.sound in
         let held = safe t new s (kept after) in
@@ -97,6 +99,7 @@ module _ (t : Toy) (old new : World) where
           kinds_are = refl;
           tables_are = refl;
           entries_are = sym (none_stored t h);
-          stores = sym (none_stored t h);
+          stores = (stores_nothing (new.seen t.source.file.0) after.image.bare).stored ∙ sym (none_stored t h);
           tight = after.image.tight;
+          header = subst (KeepsHeader (old.seen t.source.file.0)) (sym call.seen) (same_header (old.seen t.source.file.0) k.clear);
         })

@@ -18,9 +18,11 @@ use Rattle.plain_model.specs.Sound as sound
 use Rattle.plain_model.proofs.Steps.{IsSoundOutcome, stepped_is_sound}
 use Rattle.core_node.specs.Files.{event_starts_on, IsLawfulTarget, Reading}
 use Rattle.image_model.specs.Images.{IsBackupFile, IsBackupOf, IsTargetOf}
-use Rattle.core_node.specs.Step.{IsRise, next_state, during, kept_during, kept_after, may_land, Goes, NodeSteps, next_of}
+use Rattle.qc_layout.specs.declared.header.Part.TheVariants as forms
+use Rattle.qc_layout.specs.Spelling.{IsHeaderOf}
+use Rattle.core_node.specs.Step.{HasHead, HasHeadBut, IsRise, next_state, during, kept_during, kept_after, may_land, Goes, NodeSteps, next_of}
 use Rattle.core_node.specs.Rest.{State, session_directory, IsSafe}
-use Rattle.core_node.proofs.Rests.{one_kind}
+use Rattle.core_node.proofs.Rests.{no_record, one_kind}
 use Rattle.toy_core.specs.declared.toy.Toy.{Toy}
 use Rattle.toy_image.specs.Images.{store_of}
 use Rattle.toy_core.specs.Toy.{shown, machine_of, state_of, IsHeld, Keeps}
@@ -45,6 +47,7 @@ other_leads {parts} {a} {b} source f S P run only told none = elim (cases_eq f s
 pub record Leaves (t : Toy) (n : ℕ) (broken : Option ℕ) (h next : History) (within after : List (List ℕ)) (old new : World) : Type 0 where
   pub holds : sound.IsSound (machine_of (moved t n broken) next) → IsHeld (moved t n broken) new next after
   pub crashes : EachSince new old.now t.source.file.0 (IsSafe (directory t ∷ []) t.source.image.id h within)
+  pub head : (sector : List ℕ) → Leads t.source.file.0 (HasHead sector) (HasHead sector) (HasHead sector) (HasHead sector) (HasHead sector) old new
 
 -- for each history and its disks
 pub record Served (held : List ℕ → Held) (rise : Rise) (tr : Trouble) (t : Toy) (n : ℕ) (broken : Option ℕ) (grow : History → History) (old new : World) (event : Event) (reply : Reply) (h : History) (disks : List (List ℕ)) : Type 0 where
@@ -115,6 +118,15 @@ module _ (parts : Parts) (held : List ℕ → Held) (rise : Rise) (tr : Trouble)
     blanks = λ s k f size store target. elim (cases_eq f t.source.file.0) [
       | inl same ↦ absurd (one_kind (holds_next k.history k.disks k.holds).image.source (subst (λ (g : ℕ). IsTargetOf (new.seen g) true size store) same target).in_order)
       | inr other ↦ (size, store, subst (λ (file : List ℕ). IsTargetOf file true size store) ((run.files f (λ is. other (only f is))).seen) target)
+    ];
+    source_head = λ s sector k. (served k.history k.disks k.holds).leaves.head sector;
+    target_heads = λ s f at sector k has. elim (cases_eq f t.source.file.0) [
+      | inl same ↦ absurd (no_record k.holds.image.source (subst (λ (g : ℕ). IsHeaderOf forms.Target (old.seen g) has.0) same has.2).spells has.3)
+      | inr other ↦ spare_leads f (HasHeadBut at sector) (HasHeadBut at sector) run (λ is. other (only f is))
+    ];
+    seals = λ s f b base p k sealed backup. elim (cases_eq f t.source.file.0) [
+      | inl same ↦ absurd (one_kind (holds_next k.history k.disks k.holds).image.source (subst (λ (g : ℕ). IsBackupOf (new.seen g) b) same backup).in_order)
+      | inr other ↦ inl (subst (λ (file : List ℕ). IsBackupOf file b) ((run.files f (λ is. other (only f is))).seen) backup)
     ];
     sealed = λ s j k there. absurd (omega (arith, (subst (λ (s : State). Contains s.machine.jobs j) k.is there).1));
     stays = λ s f b base p k sealed. other_leads t.source.file.0 f (λ c. IsBackupOf c b) (λ c. IsBackupOf c b) run only told (λ is. no_backup k.holds is.in_order);

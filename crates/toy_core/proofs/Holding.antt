@@ -4,17 +4,21 @@ use Rattle.std.specs.Prelude.{Contains}
 use Rattle.std.proofs.lemmas.List.Elements.{Contains-append_left, Contains-push, All-push, All-weaker, All-contains, All-cons, All-nil}
 use Rattle.disk_model.specs.Files.{byte, reading, overlay, IsOutcome, EachVersion, MayWrite, IsLatest, after_sync}
 use Rattle.disk_model.specs.Files as files
-use Rattle.disk_model.specs.World.{World, Parts, Runs, versions, IsSound, Writes, Syncs, HasSynced, EachNow, EachSince, StepsWithin}
+use Rattle.disk_model.specs.World.{World, Parts, Runs, versions, IsSound, Writes, Syncs, HasSynced, EachNow, EachSince, StepsWithin, Leads}
 use Rattle.disk_model.proofs.Laws.{length-reading}
 use Rattle.disk_model.proofs.Laws.{torn_elsewhere}
 use Rattle.disk_model.proofs.Laws.{each_more, torn_length}
 use Rattle.disk_model.proofs.Laws.{since_step, since_more, steps_within}
+use Rattle.qc_layout.specs.declared.header.Fields.{Fields}
 use Rattle.qc_layout.specs.declared.header.Part.TheVariants as parts
+use Rattle.qc_layout.specs.Header.{fields_of}
 use Rattle.qc_layout.proofs.OneDisk.{one_disk}
 use Rattle.plain_model.specs.History.{History, IsHistory, Wrote, with_entry, now}
 use Rattle.plain_model.specs.Laws.{IsLikeDisk}
 use Rattle.plain_model.specs.Lawful.{Kept}
 use Rattle.plain_model.proofs.SettleLaws.{last_kept}
+use Rattle.qc_layout.specs.Extensions.{list_end}
+use Rattle.std.proofs.Math.Nat.{le-max_left, le_trans}
 use Rattle.plain_model.specs.Step as step
 use Rattle.plain_model.specs.Sound as sound
 use Rattle.plain_model.proofs.Histories.{length-now}
@@ -22,12 +26,14 @@ use Rattle.plain_model.proofs.Points.{now-wrote}
 use Rattle.core_node.specs.Rest.{Directory, Mixes, IsSafe}
 use Rattle.core_layers.specs.Layers.{IsMixed}
 use Rattle.core_layers.proofs.Exports.{mixed_is_safe, epochs-wrote}
+use Rattle.core_node.specs.Step.{HasHead}
 use Rattle.core_node.proofs.Rests.{mixes_keep}
+use Rattle.core_node.proofs.Keeping.{write_keeps_head}
 use Rattle.toy_image.specs.declared.numbers.Numbers.{Numbers}
 use Rattle.toy_core.specs.declared.toy.Toy.{Toy}
 use Rattle.toy_image.specs.Images.{IsSuited, IsImage, disk_in, IsLike, GuestBytesAreFree, IsVersionOf}
 use Rattle.toy_core.specs.Toy.{machine_of, IsHeld, IsNamed}
-use Rattle.toy_image.proofs.Free.{guest_bytes_are_free}
+use Rattle.toy_image.proofs.Free.{guest_bytes_are_free, like_fields}
 use Rattle.toy_core.proofs.Outcomes.{outcome_mixed}
 use Rattle.toy_core.proofs.Bytes.{overlay_read, torn_disk}
 
@@ -161,6 +167,10 @@ module _ (t : Toy) (old new : World) (h : History) (disks : List (List ℕ)) (at
   write_crashes = since_more new old.now t.source.file.0 (IsMixed t.source.image.id (directory t) more) (IsSafe (directory t ∷ []) t.source.image.id h more)
       (λ c m. mixed_is_safe k.sound.history_is k.epochs mixes_within.among m) (since_step old new t.source.file.0 (IsMixed t.source.image.id (directory t) more) call.steps before after)
 
+  pub write_head : (sector : List ℕ) → IsSound old → Leads t.source.file.0 (HasHead sector) (HasHead sector) (HasHead sector) (HasHead sector) (HasHead sector) old new
+  write_head sector sound_old = write_keeps_head sector sound_old sound_new call
+      (let first = le_trans (le-max_left 512 (list_end (fields_of (old.seen t.source.file.0)).cluster_bits)) k.image.front.head in omega (arith, first))
+
   pub write_holds : (event : ℕ) (broken : Option ℕ) → sound.IsSound (machine_of (moved t event broken) written) → IsHeld (moved t event broken) new written more
   write_holds event broken sound_after = record {
     told = subst IsTrue (sym call.run.goes.tells) k.told;
@@ -170,6 +180,7 @@ module _ (t : Toy) (old new : World) (h : History) (disks : List (List ℕ)) (at
     mixes = mixes_after;
     epochs = epochs-wrote t.source.image.epoch h at left k.epochs;
     image = image_after;
+    clear = subst (λ (f : Fields). f.autoclear_features < 2) (sym (like_fields t.source.image (now h) (old.seen t.source.file.0) (new.seen t.source.file.0) k.image like)) k.clear;
     each = each_after;
   }
 
@@ -185,6 +196,7 @@ still_holds t old new h disks event broken k sound_after tells named seen same =
   mixes = k.mixes;
   epochs = k.epochs;
   image = subst (IsImage t.source.image (now h)) (sym seen) (k.image);
+  clear = subst (λ (file : List ℕ). (fields_of file).autoclear_features < 2) (sym seen) k.clear;
   each = subst (EachVersion (IsVersionOf t.source.image disks (new.seen t.source.file.0))) (sym same)
       (subst (λ (file : List ℕ). EachVersion (IsVersionOf t.source.image disks file) (versions old t.source.file.0)) (sym seen)
       k.each);
@@ -225,6 +237,7 @@ module _ (t : Toy) (old new : World) (h : History) (disks : List (List ℕ)) (k 
     mixes = alike;
     epochs = k.epochs;
     image = subst (IsImage t.source.image (now h)) (sym call.seen) (k.image);
+    clear = subst (λ (file : List ℕ). (fields_of file).autoclear_features < 2) (sym call.seen) k.clear;
     each = subst (λ (file : List ℕ). EachVersion (IsVersionOf t.source.image (now h ∷ []) file) (versions new t.source.file.0)) (sym call.seen)
         alone;
   }

@@ -3,13 +3,9 @@ use Rattle.std.proofs.Common.{◌≡◌, ℕ, List, [], length, Some, refl, sym,
 use Rattle.std.proofs.lemmas.List.Elements.{All-nil}
 use Rattle.disk_model.specs.World.{World, Holds}
 use Rattle.plain_model.specs.History.{History, now}
-use Rattle.image_model.specs.Space.{Store}
 use Rattle.plain_model.specs.Jobs.{Job}
-use Rattle.bitmap_model.specs.Bitmaps.{IsShapedEntry}
-use Rattle.image_model.specs.Images.{IsSourceOf}
 use Rattle.core_node.specs.Standing.{TargetFile, StandsFor, TargetStands, HasEntry, Spares}
 use Rattle.core_node.specs.Rest.{State, Mixes, IsReady, IsSafe, in_session}
-use Rattle.core_node.specs.Ends.{HasShape}
 use Rattle.core_layers.proofs.Exports.{mixed_is_safe, reads_ready}
 use Rattle.toy_core.specs.declared.toy.Toy.{Toy}
 use Rattle.toy_core.specs.Toy.{shown, machine_of, state_of, IsHeld, Keeps, IsNamed}
@@ -54,6 +50,3 @@ spared t old new s spares k = record {
   is = k.is;
   holds = still_holds t old new k.history k.disks t.event t.broken k.holds k.holds.sound spares.source.tells (named_after t old new spares k.holds) spares.source.seen spares.source.versions;
 }
-
-pub shaped : (file disk id : List ℕ) (epoch : ℕ) (store : Store) → IsSourceOf file disk id epoch store → HasShape (length disk) (no_bitmaps file)
-shaped file disk id epoch store source = record { shapes = All-nil (IsShapedEntry (length disk)); apart = tt; few = omega arith }

@@ -3,7 +3,10 @@ use Rattle.std.proofs.Common.{◌≡◌, ◌⊎◌, inl, inr, ℕ, ◌+◌, ◌-
 use Rattle.std.specs.Prelude.{All}
 use Rattle.std.proofs.lemmas.List.Elements.{All-nil, All-cons, All-weaker}
 use Rattle.bitmap_model.specs.Bitmap.{StoredBitmap, restored}
+use Rattle.qc_layout.specs.declared.header.Fields.{Fields}
 use Rattle.qc_layout.specs.declared.header.Header.{Header}
+use Rattle.qc_layout.specs.declared.header.Own.TheVariants as owns
+use Rattle.qc_layout.specs.Header.{fields_of}
 use Rattle.qc_layout.specs.declared.header.Part.TheVariants as parts
 use Rattle.qc_layout.proofs.OneDisk.{one_disk}
 use Rattle.span_algebra.specs.Timelines as timelines
@@ -24,7 +27,9 @@ use Rattle.core_node.specs.declared.node.NotOpened.{NotOpened}
 use Rattle.core_node.specs.declared.node.NotOpened.TheVariants as unopened
 use Rattle.core_node.specs.Standing.{TargetFile}
 use Rattle.core_node.specs.Rest.{Directory, Allows, directory_of, unused, marked, first_state, FindsOpening, IsReady}
-use Rattle.core_node.specs.Ends.{Opened, OpensWithin, NodeBegins, NotOpenedFor, entry_of}
+use Rattle.core_node.specs.Ends.{Opened, OpensWithin, NodeBegins, NotOpenedFor, KeepsHeader, entry_of}
+use Rattle.image_model.specs.Refusals.{EpochSpent}
+use Rattle.qc_layout.proofs.Directories.{stores_nothing}
 use Rattle.core_node.proofs.Rests.{allows_left, ready_more}
 use Rattle.core_node.proofs.Sources.{one_id, one_epoch, one_store, one_room}
 use Rattle.core_layers.specs.Layers.{IsFound, IsInOrder}
@@ -118,7 +123,7 @@ directory_is : {n : Numbers} {file id disk : List ℕ} {h : History} {d : Direct
 directory_is {n} {file} {id} {disk} {h} {d} image ready = by_cases ready.allowed
   where
     same : directory_in n ≡ directory_of ready.opening
-    same = λ i. record { epoch = sym (one_epoch ready.finds.source image.source) i; entries = sym ready.entries_are i }
+    same = λ i. record { epoch = sym (one_epoch ready.finds.source image.source) i; entries = sym (ready.entries_are ∙ (stores_nothing file image.bare).stored) i }
 
     by_cases : Allows (d ∷ []) (directory_of ready.opening) → directory_in n ≡ d
     by_cases (inl is) = same ∙ is
@@ -156,11 +161,11 @@ next_epoch epoch (timelines.Wrote extent) is = tt
 next_epoch epoch (timelines.Reached p) is = omega (arith, is)
 
 module _ (n : Numbers) (t : Toy) (disk id sector : List ℕ) (h : History) (allows : List Directory) (old mid new : World) (suits : IsSuited n) (image : IsImage n disk (old.seen t.source.file.0)) (raise : IsImage (raised n) disk (overlay (old.seen t.source.file.0) 0 sector))
-    (history : IsHistory h) (ready : IsReady allows id h (old.seen t.source.file.0)) (source_is : t.source.image ≡ raised n) (event_is : t.event ≡ 0) (broken_is : t.broken ≡ None) (told : IsTrue old.tells)
+    (header : KeepsHeader (old.seen t.source.file.0) (overlay (old.seen t.source.file.0) 0 sector)) (history : IsHistory h) (ready : IsReady allows id h (old.seen t.source.file.0)) (source_is : t.source.image ≡ raised n) (event_is : t.event ≡ 0) (broken_is : t.broken ≡ None) (told : IsTrue old.tells)
     (named : IsNamed t.source.file.0 old) (reads : Runs (reads_of t.source.file.0) old mid) (writes : Runs (writes_of t.source.file.0) mid new)
     (seen : new.seen t.source.file.0 ≡ overlay (mid.seen t.source.file.0) 0 sector) (each : EachVersion (λ v. v ≡ new.seen t.source.file.0) (versions new t.source.file.0)) where
   none : ready.opening.entries ≡ []
-  none = ready.entries_are
+  none = ready.entries_are ∙ (stores_nothing (old.seen t.source.file.0) image.bare).stored
 
   begun : opened h (record ready.opening { taken = 0; given = 0 }) ≡ machine_of t h
   begun = machine_is suits image ready.finds none t source_is event_is broken_is
@@ -168,9 +173,16 @@ module _ (n : Numbers) (t : Toy) (disk id sector : List ℕ) (h : History) (allo
   disk_now : disk ≡ now h
   disk_now = disk_is suits image ready.finds none
 
+  keeps_header : KeepsHeader (old.seen t.source.file.0) (new.seen t.source.file.0)
+  keeps_header = subst (KeepsHeader (old.seen t.source.file.0)) (sym (seen ∙ ap (λ (c : List ℕ). overlay c 0 sector) (reads.files t.source.file.0 (λ none. none)).seen)) header
+
   image_now : IsImage t.source.image (now h) (new.seen t.source.file.0)
   image_now = subst (λ (m : Numbers). IsImage m (now h) (new.seen t.source.file.0)) (sym source_is)
       (subst (IsImage (raised n) (now h)) (sym (seen ∙ ap (λ (c : List ℕ). overlay c 0 sector) (reads.files t.source.file.0 (λ none. none)).seen)) (subst (λ (x : List ℕ). IsImage (raised n) x (overlay (old.seen t.source.file.0) 0 sector)) disk_now raise))
+
+  clear_now : (fields_of (new.seen t.source.file.0)).autoclear_features < 2
+  clear_now = subst (λ (f : Fields). f.autoclear_features < 2) image_now.source.spelled.fields
+      (keeps_header image.source.header image_now.source.header image.source.spelled image_now.source.spelled).1
 
   suits_now : IsSuited t.source.image
   suits_now = subst IsSuited (sym source_is) (raised_suits suits)
@@ -204,10 +216,11 @@ module _ (n : Numbers) (t : Toy) (disk id sector : List ℕ) (h : History) (allo
     mixes = record { among = (0, omega arith, refl); alike = All-cons (IsLikeDisk h) (now h) [] (record { long = length-now h history.inside; whole = (suits_now.sectors, image_now.size_is ∙ suits_now.size_is) }) (All-nil (IsLikeDisk h)) };
     epochs = epochs_now;
     image = image_now;
+    clear = clear_now;
     each = each_more (λ v. v ≡ new.seen t.source.file.0) (IsVersionOf t.source.image (now h ∷ []) (new.seen t.source.file.0)) (versions new t.source.file.0) version_now each;
   }
 
-  pub node_begins : n.epoch < 2 ^ 64 - 1 → NodeBegins allows (shown t) (Keeps t new) t.source.file.0 id h old
+  pub node_begins : n.epoch < 2 ^ 64 - 1 → NodeBegins allows (shown t) (Keeps t new) t.source.file.0 id h old new
   node_begins left = record {
     id_is = ap (λ (m : Numbers). m.id) source_is ∙ sym (id_is suits image ready.finds none);
     opening = ready.opening;
@@ -220,6 +233,8 @@ module _ (n : Numbers) (t : Toy) (disk id sector : List ℕ) (h : History) (allo
     enough = omega arith;
     nothing_taken = λ is. refl;
     nothing_given = λ is. refl;
+    clusters = λ some. absurd (some none);
+    header = keeps_header;
     directory_is = ap (λ (es : List StoredBitmap). map entry_of es) (sym none);
     keeps_it = record { history = h; disks = now h ∷ []; is = state_is suits image ready.finds none t source_is event_is broken_is; holds = held_now };
   }
@@ -271,10 +286,11 @@ module _ {n : Numbers} {header : Header} {f : ℕ} {sector : List ℕ} {a b z : 
     begins = λ allows id h disks told found history holds.
         let im = image_of told in
         let on = subst IsTrue (sym (call.raise.goes.tells ∙ call.look.goes.tells)) told in
-        subst (λ (g : ℕ). NodeBegins allows (shown t) (Keeps t z) g id h a) file_is
+        subst (λ (g : ℕ). NodeBegins allows (shown t) (Keeps t z) g id h a z) file_is
         (node_begins n t im.disk id sector h allows a b z im.suits
         (subst (λ (g : ℕ). IsImage n im.disk (a.seen g)) (sym file_is) im.image)
         (subst (λ (g : ℕ). IsImage (raised n) im.disk (overlay (a.seen g) 0 sector)) (sym file_is) ((raised_by told).image im.disk im.image))
+        (subst (λ (g : ℕ). KeepsHeader (a.seen g) (overlay (a.seen g) 0 sector)) (sym file_is) (raised_by told).header)
         history (subst (λ (g : ℕ). IsReady allows id h (a.seen g)) (sym file_is) (holds.seen told)) source_is event_is broken_is told
         (subst (λ (g : ℕ). IsNamed g a) (sym file_is) (record { below = given; found = found }))
         (subst (λ (g : ℕ). Runs (reads_of g) a b) (sym file_is) call.look) (subst (λ (g : ℕ). Runs (writes_of g) b z) (sym file_is) call.raise)
@@ -284,13 +300,16 @@ module _ {n : Numbers} {header : Header} {f : ℕ} {sector : List ℕ} {a b z : 
   }
 
 -- the last epoch is refused
-pub last_epoch : (n : Numbers) (header : Header) (f : ℕ) (a b : World) → IsLooked n header a.tells (a.seen f) → (IsTrue a.tells → Opens (a.seen f)) → 2 ^ 64 - 1 ≤ n.epoch → NotOpenedFor unopened.Rule f a b
-last_epoch n header f a b looked opens last = λ told allows id h history ready.
+pub last_epoch : (n : Numbers) (header : Header) (f : ℕ) (a b : World) → IsLooked n header a.tells (a.seen f) → (IsTrue a.tells → Opens (a.seen f)) → n.epoch ≡ 2 ^ 64 - 1 → NotOpenedFor unopened.Rule f a b
+last_epoch n header f a b looked opens last = λ told.
     let im = looked.image told (opens told) in
-    subst (λ (e : ℕ). 2 ^ 64 - 1 ≤ e) (one_epoch im.image.source ready.finds.source) last
+    let source = im.image.source in (
+      (EpochSpent, (source.header, n.id, source.spans_offset, source.spans_length, source.spelled, source.own ∙ ap (λ (e : ℕ). owns.Source n.id e source.spans_offset source.spans_length) last)),
+      λ allows id h history ready. let same = one_epoch source ready.finds.source in omega (arith, last, same),
+    )
 
 -- why it isn't known what it is
 pub unopened_for : (why : NotLooked) (shows : NotOpened) (f : ℕ) (a b : World) → IsUnopened shows why → (IsTrue a.tells → Opens (a.seen f)) → NotLookedFor why f a b → NotOpenedFor shows f a b
-unopened_for unlooked.Other shows f a b is opens not = subst (λ (x : NotOpened). NotOpenedFor x f a b) (sym is) (λ told allows id h history ready. absurd (not told (opens told)))
+unopened_for unlooked.Other shows f a b is opens not = subst (λ (x : NotOpened). NotOpenedFor x f a b) (sym is) (λ told. absurd (not told (opens told)))
 unopened_for unlooked.Failed shows f a b is opens not = subst (λ (x : NotOpened). NotOpenedFor x f a b) (sym is) not
 unopened_for unlooked.Memory shows f a b is opens not = subst (λ (x : NotOpened). NotOpenedFor x f a b) (sym is) tt

@@ -11,6 +11,7 @@ use Rattle.plain_model.specs.Step.{sector}
 use Rattle.plain_model.specs.Lawful.{Kept}
 use Rattle.image_model.specs.Space.{IsShapedStore}
 use Rattle.bitmap_model.specs.Bitmaps.{IsShapedEntry}
+use Rattle.qc_layout.proofs.Directories.{stores_nothing}
 use Rattle.core_node.specs.Rest.{Mixes}
 use Rattle.core_layers.specs.Layers.{IsInOrder, IsMixed}
 use Rattle.toy_image.specs.declared.numbers.Numbers.{Numbers}
@@ -56,7 +57,7 @@ image_in_order t disk file suits image = record {
   room = image.room;
   sectors = suits.sectors;
   whole = image.size_is ∙ suits.size_is;
-  entries_are = refl;
+  entries_are = (stores_nothing file image.bare).stored;
   shape = record { shapes = All-nil (IsShapedEntry (length disk)); apart = tt; few = omega arith };
   store_shape = subst (λ (n : ℕ). IsShapedStore n (store_of t)) (sym image.size_is) suits.shape;
 }

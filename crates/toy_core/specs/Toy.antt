@@ -18,6 +18,7 @@ use Rattle.plain_model.specs.Lawful.{IsOfEpoch}
 use Rattle.plain_model.specs.Sound.{IsSound}
 use Rattle.core_node.specs.Standing.{Shown}
 use Rattle.core_node.specs.Rest.{State, Mixes}
+use Rattle.qc_layout.specs.Header.{fields_of}
 use Rattle.toy_image.specs.Images.{store_of, Opens, IsSuited, IsImage, IsVersionOf}
 use Rattle.core_node.specs.declared.node.NotOpened.{NotOpened}
 use Rattle.core_node.specs.declared.node.NotOpened.TheVariants as unopened
@@ -129,6 +130,8 @@ pub record IsHeld (t : Toy) (w : World) (h : History) (disks : List (List ℕ)) 
   pub mixes : Mixes h disks
   pub epochs : All (IsOfEpoch t.source.image.epoch) (timeline_of h).entries
   pub image : IsImage t.source.image (now h) (w.seen t.source.file.0)
+  -- no unknown autoclear bit
+  pub clear : (fields_of (w.seen t.source.file.0)).autoclear_features < 2
   pub each : EachVersion (IsVersionOf t.source.image disks (w.seen t.source.file.0)) (versions w t.source.file.0)
 
 -- the state is that of a history, and the file has its disk, in each version one that a crash may mix

@@ -57,11 +57,12 @@ module _ (n : Numbers) (disk file other : List ℕ) (image : IsImage n disk file
     long = λ is. let long = like.long in omega (arith, is, long);
   }
 
-  fields : fields_of other ≡ fields_of file
-  fields = sym (alike_fields file other alike)
+  -- its header has the same numbers
+  pub like_fields : fields_of other ≡ fields_of file
+  like_fields = sym (alike_fields file other alike)
 
   bits : bits_of other ≡ bits_of file
-  bits = ap (λ f. f.cluster_bits) fields
+  bits = ap (λ f. f.cluster_bits) like_fields
 
   again : Spells parts.Source other (record (image.source.header) { own_at = place_in (first_of_kind own_kind image.source.spelled.extensions) })
   again = (header_from_start parts.Source file other _ alike (whole_header file image.source.header image.source.spelled)).spells
@@ -70,7 +71,7 @@ module _ (n : Numbers) (disk file other : List ℕ) (image : IsImage n disk file
   bare = (finds_as_spelled parts.Source other _ again).directory ∙ sym (finds_as_spelled parts.Source file _ image.source.spelled).directory ∙ image.bare
 
   form : IsSameForm n file other
-  form = same_form n disk file other image (fields_of file).autoclear_features fields like.long bare (λ i low high. like.outside i (inl high))
+  form = same_form n disk file other image (fields_of file).autoclear_features like_fields like.long bare (λ i low high. like.outside i (inl high))
 
   linear : (x : ℕ) → x < n.size → (host : ℕ) × (entry_at other (x / 2 ^ bits_of other) ≡ Ok (entries.Stored host)) × (host + x % 2 ^ bits_of other ≡ n.base + x) × (x / 2 ^ bits_of other < length (store_of n).kinds)
   linear = linear_in n disk file other image form bits
@@ -86,7 +87,7 @@ module _ (n : Numbers) (disk file other : List ℕ) (image : IsImage n disk file
     source = record {
       stands = record {
         passes = passes_from_start parts.Source file other alike image.source.stands.passes;
-        size = length-reading other n.base n.size ∙ sym image.size_is ∙ image.source.stands.size ∙ sym (ap (λ f. f.size) fields);
+        size = length-reading other n.base n.size ∙ sym image.size_is ∙ image.source.stands.size ∙ sym (ap (λ f. f.size) like_fields);
         bytes = λ x below. reads x (let long = length-reading other n.base n.size in omega (arith, below, long));
       };
       passes = form.passes image.source.passes;

@@ -1,3 +1,5 @@
+use Rattle.std.proofs.Common.{refl}
+use Rattle.core_node.proofs.Causing.{quiet_causes}
 use Rattle.std.proofs.Common.{[], sym, subst}
 use Rattle.disk_model.specs.World.{Runs}
 use Rattle.core_events.specs.Answers.{Done}
@@ -24,3 +26,6 @@ pub returns-in-Guest-clause-run : goal.returns-in-Guest-clause-run
 returns-in-Guest-clause-run g c = λ runs.
     subst (λ (e : Event). Runs (works_on (shown c.args.self.now) (shown c.serve.new.self) (g.D.Outside.world c.serve.new.depot) (plain_event e) (record { reply = plain_reply c.serve.result c.serve.new.bytes.items runs; notices = [] })) (g.D.Outside.world c.args.depot.now) (g.D.Outside.world c.serve.new.depot))
     (sym c.in-Guest.is) (c.serve.ensures.run runs)
+
+pub returns-in-Tick-clause-causes : goal.returns-in-Tick-clause-causes
+returns-in-Tick-clause-causes g c = λ runs. quiet_causes refl (λ whole. refl) (λ device. device)

@@ -1,3 +1,5 @@
+use Rattle.std.proofs.Common.{inr, refl}
+use Rattle.core_node.proofs.Causing.{quiet_causes, io_causes}
 use Rattle.std.proofs.Common.{sym, subst}
 use Rattle.core_events.specs.Views.{plain_request}
 use Rattle.plain_model.specs.Machine.{next_number}
@@ -22,3 +24,9 @@ returns-in-Err-clause-steps g c = λ bytes runs told.
     let new = g.D.Outside.world c.sync.new.self in
     as_broke c.saturating_add-self.result (next_number t.event) c.saturating_add-self.ensures
     (broke_steps t r (subst IsBuilt (sym c.requires.work) tt) c.requires.whole c.requires.granted c.requires.work old new told (g.met.D.Depot.sound c.args.depot.now) c.sync.ensures.call c.in-Err.ensures.failed c.in-Err.ensures.cause.0 c.in-Err.ensures.cause.1)
+
+pub returns-in-Ok-clause-causes : goal.returns-in-Ok-clause-causes
+returns-in-Ok-clause-causes g c = λ bytes runs. quiet_causes refl (λ whole. refl) (λ device. device)
+
+pub returns-in-Err-clause-causes : goal.returns-in-Err-clause-causes
+returns-in-Err-clause-causes g c = λ bytes runs. io_causes (record { shared = c.in-Err.ensures.cause.0; own = inr c.in-Err.ensures.cause.1 }) (λ whole broke. c.in-Err.ensures.cause.1)

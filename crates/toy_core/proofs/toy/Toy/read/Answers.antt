@@ -1,3 +1,7 @@
+use Rattle.std.proofs.Common.{inl, refl}
+use Rattle.std.proofs.lemmas.Bool.{false≢true}
+use Rattle.std.specs.Prelude.{IsSome}
+use Rattle.core_node.proofs.Causing.{quiet_causes, io_causes}
 use Rattle.std.proofs.Math.Seq.{take-append_seam}
 use Rattle.std.specs.Prelude.{is_ok, if◌then◌else◌}
 use Rattle.disk_model.specs.Files.{reading}
@@ -34,3 +38,10 @@ returns-in-Err-clause-steps g c = λ runs told.
     let new = g.D.Outside.world c.read_at.new.self in
     as_moved c.saturating_add-self.result (next_number t.event) t.broken c.saturating_add-self.ensures
     (unread_steps t r (subst IsBuilt (sym c.requires.work) tt) c.requires.whole c.requires.granted c.requires.work old new told c.read_at.ensures.run c.in-Err.ensures.cause.0 c.in-Err.ensures.cause.1)
+
+pub returns-in-Ok-clause-causes : goal.returns-in-Ok-clause-causes
+returns-in-Ok-clause-causes g c = λ runs. quiet_causes refl (λ whole. refl) (λ device. device)
+
+pub returns-in-Err-clause-causes : goal.returns-in-Err-clause-causes
+returns-in-Err-clause-causes g c = λ runs.
+    io_causes (record { shared = c.in-Err.ensures.cause.0; own = inl c.in-Err.ensures.cause.1 }) (λ whole broke. absurd (false≢true (subst IsSome whole broke)))

@@ -4,7 +4,7 @@ use Rattle.core_events.specs.declared.events.Work.{Work}
 use Rattle.plain_model.specs.Machine.{next_number}
 use Rattle.plain_model.specs.Requests.{is_write, is_flush}
 use Rattle.toy_core.specs.Toy.{shown}
-use Rattle.toy_core.proofs.Cases.{as_moved, denied_steps, denied_as, granted_as, may_work, may_read, flush_left}
+use Rattle.toy_core.proofs.Cases.{as_moved, denied_steps, denied_as, denied_causes, granted_as, may_work, may_read, flush_left}
 use Rattle.toy_core.proofs.toy.Toy.serve.Goals as goal
 
 pub returns-in-Some-clause-steps : goal.returns-in-Some-clause-steps
@@ -35,7 +35,11 @@ returns-in_default-work g c =
     record {
       steps = λ runs told. c.flush.ensures.steps _ runs told;
       denied = λ runs. granted_as c.args.self.now (plain_request c.args.request.now) _ c.requires.built none;
+      causes = λ runs. c.flush.ensures.causes _ runs;
       source = c.flush.ensures.source;
       run = λ runs. may_work c.args.self.now (plain_request c.args.request.now) (shown c.flush.new.self) (record { reply = plain_reply c.flush.result c.args.bytes.now.items runs; notices = [] }) none (c.flush.ensures.carried _ runs)
           (ap (λ (w : Work). is_write w || is_flush w) work) c.flush.ensures.run;
     }
+
+pub returns-in-Some-clause-causes : goal.returns-in-Some-clause-causes
+returns-in-Some-clause-causes g c = λ runs. denied_causes c.args.self.now (plain_request c.args.request.now) c.in-Some.errno _ _ _ (sym c.deny.ensures ∙ c.in-Some.is)
