@@ -1,5 +1,5 @@
 -- Why an event met a fault.
-use Rattle.std.proofs.Common.{◌≡◌, inl, List, [], Bool, false, ◌<◌, IsTrue, Option, None, ℕ, sym, subst, ◌∙◌, arith}
+use Rattle.std.proofs.Common.{◌≡◌, inl, [], false, None, sym, subst, ◌∙◌, arith}
 use Rattle.std.specs.Prelude.{IsSome}
 use Rattle.std.proofs.lemmas.Bool.{false≢true}
 use Rattle.disk_model.specs.World.{World, Rose, FileFailed}

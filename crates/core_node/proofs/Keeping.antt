@@ -1,5 +1,5 @@
 -- What keeps a file as it is, its first sector and its header.
-use Rattle.std.proofs.Common.{◌≡◌, inl, ℕ, ◌+◌, ◌<◌, ◌≤◌, List, IsTrue, sym, ap, subst, ◌∙◌, arith}
+use Rattle.std.proofs.Common.{◌≡◌, inl, ℕ, ◌<◌, ◌≤◌, List, IsTrue, sym, ap, subst, ◌∙◌, arith}
 use Rattle.disk_model.specs.Files.{IsOutcome, IsTorn}
 use Rattle.disk_model.specs.World.{World, versions, IsSound, Writes, EachNow, Holds, Leads, StepsWithin}
 use Rattle.disk_model.proofs.Laws.{reading_same, torn_elsewhere, since_step, write_leads}

@@ -4,7 +4,6 @@ use Rattle.std.specs.Prelude.{Any}
 use Rattle.std.proofs.lemmas.Grind.{common_steps}
 use Rattle.std.proofs.lemmas.List.{get_or_append_left}
 use Rattle.std.proofs.lemmas.List.Elements.{All-push, All-weaker}
-use Rattle.bitmap_model.specs.Bitmap.{StoredBitmap}
 use Rattle.qc_layout.specs.declared.header.Own.TheVariants as owns
 use Rattle.qc_layout.specs.declared.header.Header.{Header}
 use Rattle.qc_layout.specs.declared.header.Part.TheVariants as parts

@@ -1,5 +1,5 @@
 -- Each kind of event, as this core serves it.
-use Rattle.std.proofs.Common.{◌≡◌, inl, inr, ℕ, ◌+◌, ◌^◌, ◌<◌, ◌≤◌, List, [], ◌∷◌, ◌++◌, length, map, Bool, true, false, ◌&&◌, ◌||◌, IsTrue, Option, Some, None, refl, sym, ap, subst, ◌∙◌, arith, ltb-false}
+use Rattle.std.proofs.Common.{◌≡◌, inl, inr, ℕ, ◌+◌, ◌<◌, ◌≤◌, List, [], ◌∷◌, ◌++◌, length, map, Bool, true, false, ◌&&◌, ◌||◌, IsTrue, Option, Some, None, refl, sym, ap, subst, ◌∙◌, arith, ltb-false}
 use Rattle.std.specs.Prelude.{if◌then◌else◌, is_none, nat_lt}
 use Rattle.std.proofs.lemmas.Bool.{cases_Bool, false≢true, or_parts}
 use Rattle.disk_model.specs.Files.{reading}
@@ -41,7 +41,6 @@ use Rattle.toy_image.specs.Images.{store_of, IsVersionOf, disk_in}
 use Rattle.toy_core.specs.Toy.{IsBuilt, on_drive, is_bad, denies, shown, machine_of, next, broke, IsHeld, Keeps, IsNamed}
 use Rattle.toy_core.proofs.Space.{store_stays, freed_is}
 use Rattle.toy_core.proofs.Served.{by_shape, reply_with, place_is, denial_is, fate_denied, fate_is, denied, wrote, tore, flushed, broken_by, unread, has_read, ticked}
-use Rattle.toy_image.proofs.Free.{guest_bytes_are_free}
 use Rattle.toy_core.proofs.Holding.{directory, named_on, moved, disk_is, sized, mixes_more, version_more, write_holds, write_head, write_crashes, torn_after, still_holds, still_crashes, synced_holds, synced_crashes}
 use Rattle.toy_core.proofs.Rises.{rise_of, is_rise, rose_up, rose_at, quiet, faulty, denied_counts}
 use Rattle.toy_core.proofs.Going.{Leaves, Served, steps}

@@ -13,7 +13,7 @@ use Rattle.qc_layout.specs.declared.header.Fields.{Fields}
 use Rattle.qc_layout.specs.declared.header.Part.TheVariants as parts
 use Rattle.qc_layout.specs.Header.{fields_of}
 use Rattle.qc_layout.proofs.OneDisk.{one_disk}
-use Rattle.plain_model.specs.History.{History, IsHistory, Wrote, with_entry, now}
+use Rattle.plain_model.specs.History.{History, Wrote, with_entry, now}
 use Rattle.plain_model.specs.Laws.{IsLikeDisk}
 use Rattle.plain_model.specs.Lawful.{Kept}
 use Rattle.plain_model.proofs.SettleLaws.{last_kept}

@@ -1,5 +1,5 @@
 -- Files that say the same of their clusters, and of which the bytes before the guest's are the same but for the first sector.
-use Rattle.std.proofs.Common.{◌≡◌, inl, inr, ℕ, zero, suc, ◌+◌, ◌-◌, ◌*◌, ◌/◌, ◌%◌, ◌^◌, ◌<◌, ◌≤◌, List, length, Bool, true, false, ◌&&◌, Option, Some, None, Result, Ok, Err, refl, sym, ap, subst, ◌∙◌, arith, rules, ltb-true, min, max}
+use Rattle.std.proofs.Common.{◌≡◌, ℕ, zero, suc, ◌+◌, ◌-◌, ◌*◌, ◌/◌, ◌%◌, ◌^◌, ◌<◌, ◌≤◌, List, length, Bool, true, false, ◌&&◌, Option, Some, None, Result, Ok, Err, refl, sym, ap, subst, ◌∙◌, arith, rules, ltb-true, min, max}
 use Rattle.std.specs.Int.{w16, w64}
 use Rattle.std.specs.Prelude.{nat_lt, ◌==◌, if◌then◌else◌, count_by}
 use Rattle.std.specs.List.{range_with_len, fold}
@@ -10,7 +10,7 @@ use Rattle.qc_layout.specs.declared.header.Fields.{Fields}
 use Rattle.qc_layout.specs.declared.header.Part.TheVariants as parts
 use Rattle.qc_layout.specs.declared.entry.EntryFault.{EntryFault}
 use Rattle.qc_layout.specs.declared.entry.L2Entry.{L2Entry}
-use Rattle.qc_layout.specs.Entries.{offset_in, l1_of, l2_of}
+use Rattle.qc_layout.specs.Entries.{l1_of, l2_of}
 use Rattle.qc_layout.specs.Extensions.{list_end}
 use Rattle.qc_layout.specs.Header.{fields_of}
 use Rattle.qc_layout.specs.Disks.{entry_at, entry_under, table_at, bits_of, words_in, counts_in, blocks_in, block_at, refcount, reach_of, place_of}

@@ -1,6 +1,5 @@
 -- Files that differ in guest bytes alone are one image.
-use Rattle.std.proofs.Common.{◌≡◌, inl, ℕ, ◌+◌, ◌/◌, ◌%◌, ◌^◌, ◌<◌, ◌≤◌, List, length, max, None, Ok, Result, refl, sym, ap, subst, ◌∙◌, arith}
-use Rattle.std.proofs.Math.Nat.{le-max_left}
+use Rattle.std.proofs.Common.{◌≡◌, inl, ℕ, ◌+◌, ◌/◌, ◌%◌, ◌^◌, ◌<◌, List, length, None, Ok, Result, refl, sym, ap, subst, ◌∙◌, arith}
 use Rattle.disk_model.specs.Files.{byte}
 use Rattle.disk_model.proofs.Laws.{length-reading, byte-reading, reading_same}
 use Rattle.qc_layout.specs.declared.header.Header.{Header}
@@ -8,7 +7,7 @@ use Rattle.qc_layout.specs.declared.header.Part.TheVariants as parts
 use Rattle.qc_layout.specs.declared.entry.EntryFault.{EntryFault}
 use Rattle.qc_layout.specs.declared.entry.L2Entry.{L2Entry}
 use Rattle.qc_layout.specs.declared.entry.L2Entry.TheVariants as entries
-use Rattle.qc_layout.specs.Extensions.{list_end, own_kind, first_of_kind, place_in}
+use Rattle.qc_layout.specs.Extensions.{own_kind, first_of_kind, place_in}
 use Rattle.qc_layout.specs.Header.{fields_of}
 use Rattle.qc_layout.specs.Spelling.{Spells, IsHeaderOf}
 use Rattle.qc_layout.specs.Laws.{start_length, BeginAlike}
@@ -18,7 +17,7 @@ use Rattle.qc_layout.specs.Directory.{directory_in}
 use Rattle.qc_layout.proofs.Directories.{finds_as_spelled}
 use Rattle.core_node.proofs.Sources.{bare_passes}
 use Rattle.toy_image.specs.declared.numbers.Numbers.{Numbers}
-use Rattle.toy_image.specs.Images.{store_of, IsSuited, IsImage, IsLike, GuestBytesAreFree, disk_in}
+use Rattle.toy_image.specs.Images.{store_of, IsImage, IsLike, GuestBytesAreFree, disk_in}
 use Rattle.toy_image.proofs.Alike.{IsSameForm, same_form}
 
 -- the header and its place in this project's extension

@@ -1,14 +1,14 @@
 -- What is read of an image of the form.
-use Rattle.std.proofs.Common.{◌≡◌, ◌≢◌, inl, inr, ℕ, zero, suc, ◌+◌, ◌-◌, ◌*◌, ◌/◌, ◌%◌, ◌^◌, ◌<◌, ◌≤◌, min, max, List, length, Bool, true, false, ◌&&◌, Option, Some, None, Result, Ok, Err, IsTrue, refl, sym, ap, subst, ◌∙◌, arith, rules, add-one}
+use Rattle.std.proofs.Common.{◌≡◌, ◌≢◌, inl, inr, ℕ, zero, suc, ◌+◌, ◌-◌, ◌*◌, ◌/◌, ◌%◌, ◌^◌, ◌<◌, ◌≤◌, min, List, length, Bool, ◌&&◌, Option, Some, None, Result, Ok, Err, IsTrue, refl, sym, ap, subst, ◌∙◌, arith, rules, add-one}
 use Rattle.std.proofs.lemmas.Bool.Decides.{nat_tests}
-use Rattle.std.specs.Prelude.{nat_lt, ◌==◌, if◌then◌else◌, count_by, IfErr}
+use Rattle.std.specs.Prelude.{nat_lt, ◌==◌, if◌then◌else◌}
 use Rattle.std.specs.List.{range_with_len, fold}
 use Rattle.std.proofs.Math.Nat.{le-max_left, le_trans, zero-div, zero-mod, mul_assoc, mul_comm, mul-le-mul_right, mul-le-mul_left, one-le-mul}
 use Rattle.std.proofs.lemmas.Nat.{pow-add}
 use Rattle.std.proofs.lemmas.Bool.{cases_lt}
 use Rattle.std.proofs.lemmas.Grind.{div_ceil_times}
-use Rattle.disk_model.specs.Files.{byte, reading, u64_at}
-use Rattle.disk_model.specs.World.{World, Runs, reads_of, FileFailed}
+use Rattle.disk_model.specs.Files.{reading, u64_at}
+use Rattle.disk_model.specs.World.{World, Runs, reads_of}
 use Rattle.disk_model.proofs.Laws.{length-reading, reading-reading, file_failed_after}
 use Rattle.file_device.specs.File.{file_of, Gives}
 use Rattle.file_device.proofs.Laws.{given}
@@ -25,7 +25,7 @@ use Rattle.qc_layout.specs.Entries.{l1_of, l2_of}
 use Rattle.qc_layout.specs.Extensions.{list_end}
 use Rattle.qc_layout.specs.Header.{fields_of}
 use Rattle.qc_layout.specs.Spelling.{Spells, IsHeaderOf, IsFault}
-use Rattle.qc_layout.specs.Laws.{BeginAlike, start_length}
+use Rattle.qc_layout.specs.Laws.{BeginAlike}
 use Rattle.qc_layout.specs.Disks.{entry_at, entry_under, table_at, bits_of, words_in, counts_in, blocks_in, reach_of, place_of}
 use Rattle.qc_layout.specs.Room.{room_from, missing_blocks, IsFreeFrom}
 use Rattle.qc_layout.proofs.NumberLaws.{bits_low, bits_high}
@@ -38,7 +38,7 @@ use Rattle.toy_image.specs.declared.image.Blocks.{Blocks}
 use Rattle.toy_image.specs.declared.image.NotLooked.{NotLooked}
 use Rattle.toy_image.specs.declared.image.NotLooked.TheVariants as unlooked
 use Rattle.toy_image.specs.declared.numbers.Numbers.{Numbers}
-use Rattle.toy_image.specs.Images.{store_of, Opens, IsImage, IsImageOf, NotLookedFor, IsRefusal, is_missing_in, missing_below, missing_in}
+use Rattle.toy_image.specs.Images.{store_of, Opens, IsImageOf, NotLookedFor, IsRefusal, is_missing_in, missing_below, missing_in}
 
 -- ---- failures
 

@@ -1,5 +1,5 @@
 -- The next epoch.
-use Rattle.std.proofs.Common.{◌≡◌, inl, inr, ⊎_elim, ℕ, ◌+◌, ◌-◌, ◌/◌, ◌%◌, ◌^◌, ◌<◌, ◌≤◌, max, List, length, None, Ok, Result, refl, rules, sym, ap, subst, ◌∙◌, arith}
+use Rattle.std.proofs.Common.{◌≡◌, ℕ, ◌+◌, ◌-◌, ◌/◌, ◌%◌, ◌^◌, ◌<◌, ◌≤◌, List, length, None, Ok, Result, refl, rules, sym, ap, subst, ◌∙◌, arith}
 use Rattle.std.proofs.Math.Nat.{le-max_left, le_trans}
 use Rattle.disk_model.specs.Files.{byte, reading, overlay}
 use Rattle.disk_model.proofs.Laws.{length-overlay_inside, byte-overlay_above, reading-overlay_same}
@@ -15,7 +15,6 @@ use Rattle.qc_layout.specs.Extensions.{list_end, own_in, own_kind, first_of_kind
 use Rattle.qc_layout.specs.Header.{fields_of}
 use Rattle.qc_layout.specs.Spelling.{Spells, Fits, IsOwnOf, IsSmall, IsWritable, sector_of}
 use Rattle.qc_layout.specs.Disks.{ReadsAs, entry_at, bits_of}
-use Rattle.qc_layout.specs.Laws.{start_length}
 use Rattle.qc_layout.proofs.HeaderLaws.{one_in}
 use Rattle.qc_layout.proofs.Written.{writable_spelled, changed_writable, spelled_own, writable_fits}
 use Rattle.qc_layout.specs.Directory.{directory_in}
@@ -63,7 +62,7 @@ module _ (header : Header) (file written id : List ℕ) (epoch offset long : ℕ
       → SpellsNext header id epoch offset long written
   next_spelled small low spelled own size read =
       let writable = cleared_writable later small (changed_writable parts.Source header (owns.Source id (epoch + 1) offset long) file (small_cleared later small low)
-          (own_again id epoch (epoch + 1) offset long header.own own (spelled_own parts.Source header file spelled)) spelled) in
+      (own_again id epoch (epoch + 1) offset long header.own own (spelled_own parts.Source header file spelled)) spelled) in
       let fits = writable_fits next writable in
       record {
         next = next;
@@ -165,9 +164,9 @@ raises n file sector header of spelled has size left =
     let inside = of.image.inside in
     let whole : 512 ≤ length file = omega (arith, first, inside) in
     let spells : (disk : List ℕ) (image : IsImage n disk file) → SpellsNext header n.id n.epoch image.source.spans_offset image.source.spans_length (overlay file 0 sector) = λ disk image. has file (overlay file 0 sector) n.id n.epoch image.source.spans_offset image.source.spans_length spelled
-        (one_own file header image.source.header spelled image.source.spelled ∙ image.source.own) left
-        (omega (arith, length-overlay_inside file 0 sector (omega (arith, size, whole)), whole))
-        (reading-overlay_same file 0 sector 512 (sym size)) in
+    (one_own file header image.source.header spelled image.source.spelled ∙ image.source.own) left
+    (omega (arith, length-overlay_inside file 0 sector (omega (arith, size, whole)), whole))
+    (reading-overlay_same file 0 sector 512 (sym size)) in
     record {
       long = whole;
       image = λ disk image. raised_image n disk file sector image size image.source.spans_offset image.source.spans_length header spelled (spells disk image);

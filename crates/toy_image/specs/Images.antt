@@ -1,5 +1,5 @@
 -- Images without holes and bitmaps, whose guest bytes stand in one run of the file.
-use Rattle.std.specs.Prelude.{◌≡◌, ◌≢◌, ◌⊎◌, ℕ, ◌+◌, ◌-◌, ◌*◌, ◌/◌, ◌%◌, ◌^◌, ◌<◌, ◌≤◌, ◌==◌, ◌&&◌, nat_lt, List, [], length, replicate, Bool, true, Some, None, Ok, Contains, IsTrue}
+use Rattle.std.specs.Prelude.{◌≡◌, ◌≢◌, ◌⊎◌, ℕ, ◌+◌, ◌-◌, ◌*◌, ◌/◌, ◌%◌, ◌^◌, ◌<◌, ◌≤◌, ◌==◌, ◌&&◌, nat_lt, List, length, replicate, Bool, true, Some, None, Ok, Contains, IsTrue}
 use Rattle.std.specs.List.{range_with_len, count_by}
 use Rattle.disk_model.specs.Files.{byte, reading, overlay, u64_at}
 use Rattle.disk_model.specs.World.{World, FileFailed}

@@ -1,4 +1,4 @@
-use Rattle.std.proofs.Common.{◌≡◌, ◌≤◌, ℕ, IsTrue}
+use Rattle.std.proofs.Common.{◌≡◌, ◌≤◌, IsTrue}
 use Rattle.disk_model.specs.World.{Runs, reads_of}
 use Rattle.toy_image.specs.Images.{missing_below}
 use Rattle.toy_image.proofs.image.count_missing.Given as goal

@@ -1,5 +1,5 @@
 use Rattle.std.proofs.Common.{ap, arith}
-use Rattle.toy_image.proofs.Looking.{BeginsAt, begins_at, say_by, base_by, one_host, table_near}
+use Rattle.toy_image.proofs.Looking.{begins_at, say_by, base_by, one_host, table_near}
 use Rattle.toy_image.proofs.image.find_base.Goals.{then-bits-lt9-via-then-bits-lt9, then-bits-lt9-via-else-bits-lt9+then-bits-gt21, then-bits-lt9-via-else-bits-lt9+else-bits-gt21+then-fields}
 use Rattle.toy_image.proofs.image.find_base.Goals as goal
 

@@ -1,7 +1,6 @@
-use Rattle.std.proofs.Common.{◌≡◌, ◌+◌, ◌-◌, ◌*◌, ◌/◌, ◌%◌, ◌^◌, ◌<◌, ◌≤◌, ℕ, ap, sym, subst, refl, ◌∙◌, arith}
+use Rattle.std.proofs.Common.{◌≡◌, ◌-◌, ◌*◌, ◌/◌, ◌%◌, ◌^◌, ◌≤◌, ℕ, ap, subst, refl, ◌∙◌, arith}
 use Rattle.qc_layout.specs.declared.header.Fields.{Fields}
 use Rattle.toy_image.proofs.Looking.{begins_at, counts_are, cluster_small, AreSmall, are_small, room_is}
-use Rattle.toy_image.proofs.image.find_room.Given.{Over}
 use Rattle.toy_image.proofs.image.find_room.Goals.{then-bits-lt9-via-then-bits-lt9, then-bits-lt9-via-else-bits-lt9+then-bits-gt21, then-long-via-then-long, then-long-via-else-long+then-at-long}
 use Rattle.toy_image.proofs.image.find_room.Goals as goal
 

@@ -1,5 +1,4 @@
-use Rattle.std.proofs.Common.{◌≡◌, ℕ, List, ◌∙◌, ap, subst, rules}
-use Rattle.qc_layout.specs.declared.header.Header.{Header}
+use Rattle.std.proofs.Common.{◌≡◌, ◌∙◌, subst, rules}
 use Rattle.qc_layout.specs.declared.header.Own.{Own}
 use Rattle.qc_layout.specs.Spelling.{IsSmall, Fits, sector_of}
 use Rattle.toy_image.specs.Images.{cleared}

@@ -1,10 +1,6 @@
-use Rattle.std.proofs.Common.{◌≡◌, ◌+◌, ◌-◌, ◌*◌, ◌%◌, ◌^◌, ◌<◌, ◌≤◌, ℕ, List, ◌++◌, IsTrue, ap, sym, subst, refl, ◌∙◌, arith}
-use Rattle.disk_model.specs.World.{World, Runs, reads_of}
+use Rattle.std.proofs.Common.{ℕ, List, ◌++◌, ap, sym, refl, ◌∙◌, arith}
 use Rattle.disk_model.proofs.Laws.{run_on}
 use Rattle.qc_layout.specs.declared.header.Fields.{Fields}
-use Rattle.qc_layout.specs.Header.{fields_of}
-use Rattle.toy_image.specs.Images.{Opens, IsImageOf}
-use Rattle.toy_image.specs.declared.numbers.Numbers.{Numbers}
 use Rattle.qc_layout.specs.declared.header.Own.TheVariants as owns
 use Rattle.qc_layout.specs.Room.{room_from}
 use Rattle.toy_image.proofs.Looking.{not_after, begins_at, cluster_small, is_disk, numbers_found, fields_after, base_after, room_after, sized_as}

@@ -1,6 +1,5 @@
-use Rattle.std.proofs.Common.{◌≡◌, ◌^◌, ◌-◌, ◌<◌, ◌≤◌, ℕ, List, length, IsTrue, refl, arith, rules}
+use Rattle.std.proofs.Common.{◌≡◌, length, refl, arith, rules}
 use Rattle.disk_model.proofs.Laws.{run_on, run_more, reads_within_file}
-use Rattle.toy_core.specs.Toy.{Suits}
 use Rattle.toy_core.proofs.Opening.{Called, open_reads, within, was_opened, last_epoch, unopened_for}
 use Rattle.toy_core.proofs.toy.Toy.begin.Goals as goal
 
