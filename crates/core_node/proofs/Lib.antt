@@ -3,3 +3,4 @@ mod Refusals
 pub mod Sources
 pub mod Keeping
 pub mod Causing
+pub mod Rises

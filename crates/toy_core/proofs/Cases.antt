@@ -40,9 +40,9 @@ use Rattle.toy_core.specs.declared.toy.Toy.{Toy}
 use Rattle.toy_image.specs.Images.{store_of, IsVersionOf, disk_in}
 use Rattle.toy_core.specs.Toy.{IsBuilt, on_drive, is_bad, denies, shown, machine_of, next, broke, IsHeld, Keeps, IsNamed}
 use Rattle.toy_core.proofs.Space.{store_stays, freed_is}
-use Rattle.toy_core.proofs.Served.{by_shape, reply_with, place_is, denial_is, fate_denied, fate_is, denied, wrote, tore, flushed, broken_by, unread, has_read, ticked}
+use Rattle.toy_core.proofs.Served.{by_shape, denied_counts, reply_with, place_is, denial_is, fate_denied, fate_is, denied, wrote, tore, flushed, broken_by, unread, has_read, ticked}
 use Rattle.toy_core.proofs.Holding.{directory, named_on, moved, disk_is, sized, mixes_more, version_more, write_holds, write_head, write_crashes, torn_after, still_holds, still_crashes, synced_holds, synced_crashes}
-use Rattle.toy_core.proofs.Rises.{rise_of, is_rise, rose_up, rose_at, quiet, faulty, denied_counts}
+use Rattle.core_node.proofs.Rises.{rise_of, is_rise, rose_up, rose_at, quiet, faulty}
 use Rattle.toy_core.proofs.Going.{Leaves, Served, steps}
 
 abbrev none_held : List ℕ → Held

@@ -4,7 +4,6 @@ pub mod Bytes
 pub mod Served
 pub mod Holding
 pub mod Going
-pub mod Rises
 pub mod Cases
 pub mod Laws
 pub mod Opening

@@ -1,6 +1,6 @@
 -- What the plain machine does for a core of this kind.
 use Rattle.std.proofs.Common.{◌≡◌, ℕ, ◌+◌, List, [], ◌∷◌, Bool, true, false, not, ◌&&◌, ◌||◌, Option, Some, None, is_some, refl, sym, ap, ◌∙◌, arith}
-use Rattle.std.specs.Prelude.{nat_lt, if◌then◌else◌, find, bytes_eq}
+use Rattle.std.specs.Prelude.{nat_lt, is_none, if◌then◌else◌, find, bytes_eq}
 use Rattle.std.specs.Bool.{then_some}
 use Rattle.core_events.specs.Events.{Request, Guest, Tick}
 use Rattle.core_events.specs.declared.commands.ExportArgs.{ExportArgs}
@@ -17,6 +17,7 @@ use Rattle.plain_model.specs.Jobs.{Job}
 use Rattle.plain_model.specs.Machine.{Machine, GoneView, size_of, has_target}
 use Rattle.plain_model.specs.Requests.{Place, Drive, Nowhere, last_gone, view_place, export_place, is_view, is_nowhere, is_gone, is_drive_place, is_read_only, is_read_only_export, place_of, is_invalid, is_write, stores, longest, denial, lacks_room, granted, read_at, bytes_at, range_of}
 use Rattle.monitor_model.specs.Commands.{first_of}
+use Rattle.plain_model.specs.Faults.{is_io_errno}
 use Rattle.plain_model.specs.Ending.{leave, after_break}
 use Rattle.plain_model.specs.Actions.{Held}
 use Rattle.plain_model.specs.Outcome.{Trouble, no_trouble, Well, Untouched, Torn, RequestEnd, Fate, Denied, Lost, Carried, CarriedInPart, fate_by, fate, after_copying, after_marking, after_writing, bytes_of, breaks_by, by_fate, or_break, guest, tick, outcome, answered, Outcome}
@@ -75,6 +76,23 @@ denial_is t r m built exports views gone size broken =
     ∙ ap (λ (b : Bool). shape (is_write r.work) false (if on_drive r.way then Drive else Nowhere) b m.broken) (invalid_is t r r.work m built size)
     ∙ ap (λ (b : Option ℕ). shape (is_write r.work) false (if on_drive r.way then Drive else Nowhere) (is_bad t r r.work) b) (sym broken)
     ∙ shaped (is_write r.work) (on_drive r.way) (is_bad t r r.work) t.broken
+
+io_in : Option Errno → Bool
+io_in None = false
+io_in (Some errno) = is_io_errno errno
+
+invalid : (errno : Errno) → Some Invalid ≡ Some errno → is_io_errno errno ≡ false
+unfolding io_in
+invalid errno is = ap io_in (sym is)
+
+-- EIO is a denial only on a source that is broken
+pub denied_counts : (drive bad : Bool) (broken : Option ℕ) (errno : Errno) → by_shape drive bad broken ≡ Some errno → (is_none broken && is_io_errno errno) ≡ false
+denied_counts true true None errno is = invalid errno is
+denied_counts true true (Some n) errno is = refl
+denied_counts true false None errno is = absurd (cc)
+denied_counts true false (Some n) errno is = refl
+denied_counts false bad None errno is = invalid errno is
+denied_counts false bad (Some n) errno is = refl
 
 -- ---- fates
 

@@ -6,13 +6,12 @@ use Rattle.disk_model.specs.World.{World, Rose}
 use Rattle.core_events.specs.Events.{Request, Event, Guest, Monitor, Tick}
 use Rattle.core_events.specs.Answers.{Reply, Fault}
 use Rattle.core_events.specs.declared.answers.Errno.{Errno}
-use Rattle.core_events.specs.declared.answers.Errno.TheVariants.{Io, Invalid}
+use Rattle.core_events.specs.declared.answers.Errno.TheVariants.{Io}
 use Rattle.plain_model.specs.Machine.{Machine}
 use Rattle.plain_model.specs.Requests.{place_of, Drive}
 use Rattle.plain_model.specs.Outcome.{RequestEnd, no_trouble, fate, breaks_by, numbered}
 use Rattle.plain_model.specs.Faults.{Rise, StepFaults, IsTiedAt, IsRequestTied, IsBreakTied, is_io, is_io_errno}
 use Rattle.core_node.specs.Step.{IsRise, IsRiseOf, IsRiseAt}
-use Rattle.toy_core.proofs.Served.{by_shape}
 
 abbrev last : ℕ
 last = 2 ^ 64 - 1
@@ -104,20 +103,3 @@ faulty source rise end m r place shared failed break = record {
   break = break;
   starts = λ name unread. absurd (false≢true unread);
 }
-
-io_in : Option Errno → Bool
-io_in None = false
-io_in (Some errno) = is_io_errno errno
-
-invalid : (errno : Errno) → Some Invalid ≡ Some errno → is_io_errno errno ≡ false
-unfolding io_in
-invalid errno is = ap io_in (sym is)
-
--- EIO is a denial only on a source that is broken
-pub denied_counts : (drive bad : Bool) (broken : Option ℕ) (errno : Errno) → by_shape drive bad broken ≡ Some errno → (is_none broken && is_io_errno errno) ≡ false
-denied_counts true true None errno is = invalid errno is
-denied_counts true true (Some n) errno is = refl
-denied_counts true false None errno is = absurd (cc)
-denied_counts true false (Some n) errno is = refl
-denied_counts false bad None errno is = invalid errno is
-denied_counts false bad (Some n) errno is = refl
