@@ -10,8 +10,8 @@ use Rattle.core_node.specs.Standing.{Shown}
 use Rattle.core_node.specs.Causes.{IsDeviceFailed, Causes}
 
 -- one that breaks nothing, tells of nothing, and isn't answered with a fault of a device
-pub quiet_causes : {before after : Shown} {old new : World} {reply : Reply} → after.broken ≡ before.broken → (before.broken ≡ None → is_io reply ≡ false) → (IsDeviceFailed reply → ⊥)
-    → Causes before after old new (record { reply = reply; notices = [] })
+pub quiet_causes : {before after : Shown} {old new : World} {reply : Reply} → after.broken ≡ before.broken
+    → (before.broken ≡ None → is_io reply ≡ false) → (IsDeviceFailed reply → ⊥) → Causes before after old new (record { reply = reply; notices = [] })
 quiet_causes {before} {after} same io device = record {
   break = λ whole broke. absurd (false≢true (subst IsSome (same ∙ whole) broke));
   io = λ whole is. absurd (false≢true (sym (io whole) ∙ is));
@@ -21,7 +21,8 @@ quiet_causes {before} {after} same io device = record {
 
 -- a request that is answered EIO where a call on the source's file failed
 pub io_causes : {before after : Shown} {old new : World} → FileFailed before.file old new
-    → (before.broken ≡ None → IsSome after.broken → Rose (old.faults.writes before.file) (new.faults.writes before.file)) → Causes before after old new (record { reply = Fault Io; notices = [] })
+    → (before.broken ≡ None → IsSome after.broken → Rose (old.faults.writes before.file) (new.faults.writes before.file))
+    → Causes before after old new (record { reply = Fault Io; notices = [] })
 io_causes {before} failed broke = record {
   break = λ whole breaks. (failed.shared, broke whole breaks);
   io = λ whole is. inl failed;

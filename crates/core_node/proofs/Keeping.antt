@@ -10,7 +10,8 @@ use Rattle.core_node.specs.Ends.{KeepsHeader}
 use Rattle.core_node.proofs.Sources.{one_said}
 
 -- a file that is as it was
-pub still_leads : {f : ℕ} {old new : World} (S P : List ℕ → Type 0) → new.tells ≡ old.tells → new.seen f ≡ old.seen f → versions new f ≡ versions old f → StepsWithin old new f → Leads f S P P S P old new
+pub still_leads : {f : ℕ} {old new : World} (S P : List ℕ → Type 0) → new.tells ≡ old.tells → new.seen f ≡ old.seen f
+    → versions new f ≡ versions old f → StepsWithin old new f → Leads f S P P S P old new
 still_leads {f} {old} {new} S P tells seen same steps = record {
   since = λ holds. since_step old new f P steps holds.each (after holds);
   after = λ holds. record { seen = λ told. subst S (sym seen) (holds.seen (subst IsTrue tells told)); each = after holds };
@@ -34,4 +35,5 @@ pub same_header : (file : List ℕ) → (fields_of file).autoclear_features < 2 
 same_header file few h g before after =
     let same = one_said file h g before after in
     let bits = ap (λ (f : Fields). f.autoclear_features) after.fields in
-    (sym same.0 ∙ ap (λ (a : ℕ). record (h.fields) { autoclear_features = a }) (ap (λ (f : Fields). f.autoclear_features) same.0), omega (arith, bits, few), sym same.1)
+    let both = ap (λ (f : Fields). f.autoclear_features) same.0 in
+    (sym same.0 ∙ ap (λ (a : ℕ). record (h.fields) { autoclear_features = a }) both, omega (arith, bits, few), sym same.1)

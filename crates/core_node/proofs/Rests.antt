@@ -74,7 +74,8 @@ mixes_keep {h} {disks} history mixes = record {
 -- ---- one file
 
 -- a source's header has no record
-pub no_record : {file disk id bytes : List ℕ} {epoch : ℕ} {store : Store} {h : Header} → IsSourceOf file disk id epoch store → Spells parts.Target file h → h.own ≡ owns.Target bytes → ⊥
+pub no_record : {file disk id bytes : List ℕ} {epoch : ℕ} {store : Store} {h : Header}
+    → IsSourceOf file disk id epoch store → Spells parts.Target file h → h.own ≡ owns.Target bytes → ⊥
 no_record {file} {disk} {id} {bytes} {epoch} source spelled own =
     let same = one_in file source.spelled.extensions spelled.extensions source.spelled.listed spelled.listed in
     differ id epoch source.spans_offset source.spans_length bytes

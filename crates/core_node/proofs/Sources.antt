@@ -39,11 +39,15 @@ one_own : {file disk other id name : List ℕ} {epoch count : ℕ} {a b : Store}
 one_own {file} x y = sym x.own ∙ x.spelled.own ∙ ap (λ es. own_in file (first_of_kind own_kind es)) (one_in file x.spelled.extensions y.spelled.extensions x.spelled.listed y.spelled.listed) ∙ sym y.spelled.own ∙ y.own
 
 -- what two headers that a file spells say is one
-pub one_said : (file : List ℕ) (h g : Header) → Spells parts.Source file h → Spells parts.Source file g → (h.fields ≡ g.fields) × (h.kept.items.items ≡ g.kept.items.items)
+pub one_said : (file : List ℕ) (h g : Header) → Spells parts.Source file h → Spells parts.Source file g
+    → (h.fields ≡ g.fields) × (h.kept.items.items ≡ g.kept.items.items)
 one_said file h g x y =
     let same = one_in file x.extensions y.extensions x.listed y.listed in
-    let fields = x.fields ∙ sym y.fields in
-    (fields, x.kept ∙ ap (λ (f : Fields). tail_of file f.header_length ++ kept_bytes file x.extensions) fields ∙ ap (λ es. tail_of file g.fields.header_length ++ kept_bytes file es) same ∙ sym y.kept)
+    let fields = x.fields ∙ sym y.fields in (
+      fields,
+      x.kept ∙ ap (λ (f : Fields). tail_of file f.header_length ++ kept_bytes file x.extensions) fields
+          ∙ ap (λ es. tail_of file g.fields.header_length ++ kept_bytes file es) same ∙ sym y.kept,
+    )
 
 pub one_id : {file disk other id name : List ℕ} {epoch count : ℕ} {a b : Store} → IsSourceOf file disk id epoch a → IsSourceOf file other name count b → id ≡ name
 unfolding own_id

@@ -451,6 +451,7 @@ flush_left (Status context one) built a b = absurd built
 
 -- ---- why an event met a fault
 
-pub denied_causes : (t : Toy) (r : Request) (errno : Errno) (n : ℕ) (old new : World) → denies t r ≡ Some errno → Causes (shown t) (shown (moved t n t.broken)) old new (record { reply = Fault errno; notices = [] })
+pub denied_causes : (t : Toy) (r : Request) (errno : Errno) (n : ℕ) (old new : World) → denies t r ≡ Some errno
+    → Causes (shown t) (shown (moved t n t.broken)) old new (record { reply = Fault errno; notices = [] })
 denied_causes t r errno n old new is = quiet_causes refl (λ whole.
     ap (λ (o : Option ℕ). is_none o && is_io_errno errno) (sym whole) ∙ denied_counts (on_drive r.way) (is_bad t r r.work) t.broken errno is) (λ device. device)

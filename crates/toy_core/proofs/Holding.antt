@@ -167,7 +167,8 @@ module _ (t : Toy) (old new : World) (h : History) (disks : List (List ℕ)) (at
   write_crashes = since_more new old.now t.source.file.0 (IsMixed t.source.image.id (directory t) more) (IsSafe (directory t ∷ []) t.source.image.id h more)
       (λ c m. mixed_is_safe k.sound.history_is k.epochs mixes_within.among m) (since_step old new t.source.file.0 (IsMixed t.source.image.id (directory t) more) call.steps before after)
 
-  pub write_head : (sector : List ℕ) → IsSound old → Leads t.source.file.0 (HasHead sector) (HasHead sector) (HasHead sector) (HasHead sector) (HasHead sector) old new
+  pub write_head : (sector : List ℕ) → IsSound old
+      → Leads t.source.file.0 (HasHead sector) (HasHead sector) (HasHead sector) (HasHead sector) (HasHead sector) old new
   write_head sector sound_old = write_keeps_head sector sound_old sound_new call
       (let first = le_trans (le-max_left 512 (list_end (fields_of (old.seen t.source.file.0)).cluster_bits)) k.image.front.head in omega (arith, first))
 
@@ -180,7 +181,8 @@ module _ (t : Toy) (old new : World) (h : History) (disks : List (List ℕ)) (at
     mixes = mixes_after;
     epochs = epochs-wrote t.source.image.epoch h at left k.epochs;
     image = image_after;
-    clear = subst (λ (f : Fields). f.autoclear_features < 2) (sym (like_fields t.source.image (now h) (old.seen t.source.file.0) (new.seen t.source.file.0) k.image like)) k.clear;
+    clear = subst (λ (f : Fields). f.autoclear_features < 2)
+        (sym (like_fields t.source.image (now h) (old.seen t.source.file.0) (new.seen t.source.file.0) k.image like)) k.clear;
     each = each_after;
   }
 

@@ -304,7 +304,17 @@ pub last_epoch : (n : Numbers) (header : Header) (f : ℕ) (a b : World) → IsL
 last_epoch n header f a b looked opens last = λ told.
     let im = looked.image told (opens told) in
     let source = im.image.source in (
-      (EpochSpent, (source.header, n.id, source.spans_offset, source.spans_length, source.spelled, source.own ∙ ap (λ (e : ℕ). owns.Source n.id e source.spans_offset source.spans_length) last)),
+      (
+        EpochSpent,
+        (
+          source.header,
+          n.id,
+          source.spans_offset,
+          source.spans_length,
+          source.spelled,
+          source.own ∙ ap (λ (e : ℕ). owns.Source n.id e source.spans_offset source.spans_length) last,
+        ),
+      ),
       λ allows id h history ready. let same = one_epoch source ready.finds.source in omega (arith, last, same),
     )
 

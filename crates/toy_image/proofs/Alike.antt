@@ -50,7 +50,8 @@ same_count p q a (suc n) sum same =
     ap (λ (b : Bool). fold (λ s k. s + (if p k then 1 else 0)) (sum + (if b then 1 else 0)) (range_with_len (a + 1) n)) (same a (omega arith) (omega arith))
     ∙ same_count p q (a + 1) n (sum + (if q a then 1 else 0)) (λ k low high. same k (omega (arith, low)) (omega (arith, high)))
 
-module _ (n : Numbers) (disk file other : List ℕ) (image : IsImage n disk file) (autoclear : ℕ) (fields : fields_of other ≡ record (fields_of file) { autoclear_features = autoclear })
+module _ (n : Numbers) (disk file other : List ℕ) (image : IsImage n disk file) (autoclear : ℕ)
+    (fields : fields_of other ≡ record (fields_of file) { autoclear_features = autoclear })
     (long : length other ≡ length file) (bare : directory_in other ≡ None)
     (same : (i : ℕ) → 512 ≤ i → i < n.base → byte other i ≡ byte file i) where
   places : AreBehind (fields_of file)

@@ -33,7 +33,8 @@ own_again : (id : List ℕ) (epoch next offset long : ℕ) (own : Own) → own �
 own_again id epoch next offset long own is of = subst (IsOwnOf parts.Source) is of
 
 -- and so without autoclear bits
-cleared_writable : (h : Header) → IsSmall (record h { fields = cleared h.fields }) → IsWritable parts.Source h → IsWritable parts.Source (record h { fields = cleared h.fields })
+cleared_writable : (h : Header) → IsSmall (record h { fields = cleared h.fields }) → IsWritable parts.Source h
+    → IsWritable parts.Source (record h { fields = cleared h.fields })
 cleared_writable h small w = record {
   small = small;
   numbers = w.numbers;
@@ -58,7 +59,8 @@ module _ (header : Header) (file written id : List ℕ) (epoch offset long : ℕ
   abbrev pub next : Header
   next = record later { fields = cleared header.fields }
 
-  pub next_spelled : IsSmall next → header.fields.autoclear_features < 2 ^ 64 → Spells parts.Source file header → header.own ≡ owns.Source id epoch offset long → 512 ≤ length written → (Fits next → reading written 0 512 ≡ sector_of next)
+  pub next_spelled : IsSmall next → header.fields.autoclear_features < 2 ^ 64 → Spells parts.Source file header
+      → header.own ≡ owns.Source id epoch offset long → 512 ≤ length written → (Fits next → reading written 0 512 ≡ sector_of next)
       → SpellsNext header id epoch offset long written
   next_spelled small low spelled own size read =
       let writable = cleared_writable later small (changed_writable parts.Source header (owns.Source id (epoch + 1) offset long) file (small_cleared later small low)
@@ -100,7 +102,8 @@ module _ (n : Numbers) (disk file sector : List ℕ) (image : IsImage n disk fil
   bits = ap (λ (f : Fields). f.cluster_bits) fields
 
   bare : directory_in other ≡ None
-  bare = (finds_as_spelled parts.Source other is.next is.spelled).directory ∙ is.bitmaps ∙ sym (finds_as_spelled parts.Source file header spelled).directory ∙ image.bare
+  bare = (finds_as_spelled parts.Source other is.next is.spelled).directory ∙ is.bitmaps
+      ∙ sym (finds_as_spelled parts.Source file header spelled).directory ∙ image.bare
 
   form : IsSameForm n file other
   form = same_form n disk file other image 0 fields same_long bare (λ i low high. same i low)
