@@ -1,4 +1,6 @@
 pub mod Rests
 mod Refusals
 pub mod Sources
+pub mod Keeping
+pub mod Causing
 pub mod Rises

@@ -4,8 +4,10 @@ use Rattle.std.specs.Prelude.{Any}
 use Rattle.std.proofs.lemmas.Grind.{common_steps}
 use Rattle.std.proofs.lemmas.List.{get_or_append_left}
 use Rattle.std.proofs.lemmas.List.Elements.{All-push, All-weaker}
-use Rattle.bitmap_model.specs.Bitmap.{StoredBitmap}
 use Rattle.qc_layout.specs.declared.header.Own.TheVariants as owns
+use Rattle.qc_layout.specs.declared.header.Header.{Header}
+use Rattle.qc_layout.specs.declared.header.Part.TheVariants as parts
+use Rattle.qc_layout.specs.Spelling.{Spells}
 use Rattle.qc_layout.specs.Extensions.{own_in, first_of_kind, own_kind}
 use Rattle.qc_layout.proofs.HeaderLaws.{one_in}
 use Rattle.plain_model.specs.History.{History, IsHistory, now}
@@ -71,15 +73,20 @@ mixes_keep {h} {disks} history mixes = record {
 
 -- ---- one file
 
--- no file is both a source and a backup
-pub one_kind : {file disk id bytes : List ℕ} {epoch : ℕ} {store other : Store} → IsSourceOf file disk id epoch store → IsBackupFile file bytes other → ⊥
-one_kind {file} {disk} {id} {bytes} {epoch} source target =
-    let same = one_in file source.spelled.extensions target.spelled.extensions source.spelled.listed target.spelled.listed in
+-- a source's header has no record
+pub no_record : {file disk id bytes : List ℕ} {epoch : ℕ} {store : Store} {h : Header}
+    → IsSourceOf file disk id epoch store → Spells parts.Target file h → h.own ≡ owns.Target bytes → ⊥
+no_record {file} {disk} {id} {bytes} {epoch} source spelled own =
+    let same = one_in file source.spelled.extensions spelled.extensions source.spelled.listed spelled.listed in
     differ id epoch source.spans_offset source.spans_length bytes
-    (sym source.own ∙ source.spelled.own ∙ ap (λ es. own_in file (first_of_kind own_kind es)) same ∙ sym target.spelled.own ∙ target.own)
+    (sym source.own ∙ source.spelled.own ∙ ap (λ es. own_in file (first_of_kind own_kind es)) same ∙ sym spelled.own ∙ own)
   where
     differ : (id : List ℕ) (a b c : ℕ) (bytes : List ℕ) → owns.Source id a b c ≡ owns.Target bytes → ⊥
     differ id a b c bytes e = absurd (cc)
+
+-- no file is both a source and a backup
+pub one_kind : {file disk id bytes : List ℕ} {epoch : ℕ} {store other : Store} → IsSourceOf file disk id epoch store → IsBackupFile file bytes other → ⊥
+one_kind source target = no_record source target.spelled target.own
 
 -- an image that is ready for the history itself is safe
 pub ready_is_safe : {allows : List Directory} {id : List ℕ} {h : History} {mixed : List (List ℕ)} {file : List ℕ} → IsHistory h → (n : ℕ) × (length (now h) ≡ n * 512) → Kept mixed (now h)

@@ -1,16 +1,15 @@
 -- How counts rose in an event, and that its faults are tied to them.
-use Rattle.std.proofs.Common.{◌≡◌, inl, inr, ℕ, ◌+◌, ◌-◌, ◌^◌, ◌<◌, ◌≤◌, List, [], Bool, true, false, ◌&&◌, IsTrue, Option, Some, None, refl, sym, ap, subst, ◌∙◌, arith, ltb-false, ltb-true}
+use Rattle.std.proofs.Common.{◌≡◌, inl, inr, ℕ, ◌+◌, ◌-◌, ◌^◌, ◌<◌, ◌≤◌, List, [], Bool, true, false, ◌&&◌, IsTrue, Option, Some, None, refl, sym, subst, ◌∙◌, arith, ltb-false, ltb-true}
 use Rattle.std.specs.Prelude.{nat_lt, if◌then◌else◌, is_none}
 use Rattle.std.proofs.lemmas.Bool.{cases_Bool, false≢true}
 use Rattle.disk_model.specs.World.{World, Rose}
 use Rattle.core_events.specs.Events.{Request, Event, Guest, Monitor, Tick}
 use Rattle.core_events.specs.Answers.{Reply, Fault}
-use Rattle.core_events.specs.declared.answers.Errno.{Errno}
 use Rattle.core_events.specs.declared.answers.Errno.TheVariants.{Io}
 use Rattle.plain_model.specs.Machine.{Machine}
 use Rattle.plain_model.specs.Requests.{place_of, Drive}
 use Rattle.plain_model.specs.Outcome.{RequestEnd, no_trouble, fate, breaks_by, numbered}
-use Rattle.plain_model.specs.Faults.{Rise, StepFaults, IsTiedAt, IsRequestTied, IsBreakTied, is_io, is_io_errno}
+use Rattle.plain_model.specs.Faults.{Rise, StepFaults, IsTiedAt, IsRequestTied, IsBreakTied, is_io}
 use Rattle.core_node.specs.Step.{IsRise, IsRiseOf, IsRiseAt}
 
 abbrev last : ℕ

@@ -1,5 +1,5 @@
--- A file is one source: one id, one epoch, and one set of clusters with one room.
-use Rattle.std.proofs.Common.{◌≡◌, ℕ, ◌<◌, List, [], length, Bool, false, Option, Result, Ok, Err, refl, sym, ap, ◌∙◌, arith}
+-- A file is one source: one id, one epoch, and one set of clusters with one room; and what is owned in one without a directory of bitmaps.
+use Rattle.std.proofs.Common.{◌≡◌, ℕ, ◌<◌, List, [], ◌++◌, length, Bool, false, Option, None, Result, Ok, Err, refl, sym, ap, ◌∙◌, arith}
 use Rattle.std.specs.Prelude.{get_or}
 use Rattle.std.proofs.lemmas.List.FromFn.{fill_by_all}
 use Rattle.bitmap_model.specs.Granules.{granules_in, is_in}
@@ -8,10 +8,19 @@ use Rattle.qc_layout.specs.declared.entry.L2Entry.{L2Entry}
 use Rattle.qc_layout.specs.declared.entry.L2Entry.TheVariants as entries
 use Rattle.qc_layout.specs.declared.header.Own.{Own}
 use Rattle.qc_layout.specs.declared.header.Own.TheVariants as owns
-use Rattle.qc_layout.specs.Extensions.{own_in, first_of_kind, own_kind}
+use Rattle.qc_layout.specs.declared.header.Fields.{Fields}
+use Rattle.qc_layout.specs.declared.header.Header.{Header}
+use Rattle.qc_layout.specs.declared.header.Part.TheVariants as parts
+use Rattle.qc_layout.specs.Extensions.{own_in, first_of_kind, own_kind, tail_of, kept_bytes}
+use Rattle.qc_layout.specs.Spelling.{Spells}
 use Rattle.qc_layout.specs.Header.{fields_of}
-use Rattle.qc_layout.specs.Disks.{entry_at, table_at}
+use Rattle.qc_layout.specs.Disks.{entry_at, table_at, refcount, reach_of}
 use Rattle.qc_layout.specs.Room.{HasRoom, room_from}
+use Rattle.qc_layout.specs.Room.{TablesPass}
+use Rattle.qc_layout.specs.Directory.{directory_in, directory_fault}
+use Rattle.qc_layout.specs.Owners.{Owner, Image, Bitmaps, Owns, Counted}
+use Rattle.qc_layout.specs.Laws.{StoresNothing}
+use Rattle.qc_layout.proofs.Directories.{stores_nothing}
 use Rattle.qc_layout.proofs.HeaderLaws.{one_in}
 use Rattle.image_model.specs.Space.{Store, Kind, Hole, kind_at, entries_in}
 use Rattle.image_model.specs.Images.{IsSourceOf, HasClusters, IsKind, IsThere}
@@ -28,6 +37,17 @@ own_epoch (owns.Target bytes) = 0
 
 one_own : {file disk other id name : List ℕ} {epoch count : ℕ} {a b : Store} (x : IsSourceOf file disk id epoch a) (y : IsSourceOf file other name count b) → owns.Source id epoch x.spans_offset x.spans_length ≡ owns.Source name count y.spans_offset y.spans_length
 one_own {file} x y = sym x.own ∙ x.spelled.own ∙ ap (λ es. own_in file (first_of_kind own_kind es)) (one_in file x.spelled.extensions y.spelled.extensions x.spelled.listed y.spelled.listed) ∙ sym y.spelled.own ∙ y.own
+
+-- what two headers that a file spells say is one
+pub one_said : (file : List ℕ) (h g : Header) → Spells parts.Source file h → Spells parts.Source file g
+    → (h.fields ≡ g.fields) × (h.kept.items.items ≡ g.kept.items.items)
+one_said file h g x y =
+    let same = one_in file x.extensions y.extensions x.listed y.listed in
+    let fields = x.fields ∙ sym y.fields in (
+      fields,
+      x.kept ∙ ap (λ (f : Fields). tail_of file f.header_length ++ kept_bytes file x.extensions) fields
+          ∙ ap (λ es. tail_of file g.fields.header_length ++ kept_bytes file es) same ∙ sym y.kept,
+    )
 
 pub one_id : {file disk other id name : List ℕ} {epoch count : ℕ} {a b : Store} → IsSourceOf file disk id epoch a → IsSourceOf file other name count b → id ≡ name
 unfolding own_id
@@ -76,3 +96,25 @@ one_room file a b x y =
     let high = y.is_next.least x.next x.is_next.free in
     let same : x.next ≡ y.next = omega (arith, low, high) in
     x.count ∙ ap (λ (n : ℕ). room_from file n) same ∙ sym y.count
+
+-- ---- without a directory of bitmaps
+
+-- tables that pass the rules of an opening are the whole of what is owned
+pub bare_passes : (file : List ℕ) → directory_in file ≡ None → TablesPass file → (directory_fault file ≡ None) × Counted file
+bare_passes file bare passes = (nothing.faultless, record { once = once; below = below; counted = counted })
+  where
+    nothing : StoresNothing file
+    nothing = stores_nothing file bare
+
+    once : (a b : Owner) (k : ℕ) → Owns file a k → Owns file b k → a ≡ b
+    once (Image a) (Image b) k x y = ap Image (passes.counted.once a b k x y)
+    once (Image a) (Bitmaps b) k x y = absurd (nothing.held b k y)
+    once (Bitmaps a) b k x y = absurd (nothing.held a k x)
+
+    below : (a : Owner) (k : ℕ) → Owns file a k → k < reach_of file
+    below (Image a) k x = passes.counted.below a k x
+    below (Bitmaps a) k x = absurd (nothing.held a k x)
+
+    counted : (a : Owner) (k : ℕ) → Owns file a k → 0 < refcount file k
+    counted (Image a) k x = passes.counted.counted a k x
+    counted (Bitmaps a) k x = absurd (nothing.held a k x)

@@ -1,8 +1,7 @@
 -- Why an event met a fault, as the counts of any depot show it, whether it tells its files or not.
-use Rattle.std.specs.Prelude.{◌≡◌, ◌⊎◌, List, Bool, true, false, None, IsSome, IsTrue, Contains}
+use Rattle.std.specs.Prelude.{◌≡◌, ◌⊎◌, None, IsSome, IsTrue, Contains}
 use Rattle.disk_model.specs.World.{World, Rose, FileFailed}
 use Rattle.core_events.specs.declared.answers.Notice.{Notice}
-use Rattle.core_events.specs.declared.refusals.Refusal.{Refusal}
 use Rattle.core_events.specs.declared.refusals.Refusal.TheVariants.{DeviceFailed}
 use Rattle.core_events.specs.Answers.{Reply, Refused, Answer}
 use Rattle.plain_model.specs.Faults.{is_failure, is_io}

@@ -1,6 +1,6 @@
 -- What an event may touch.
-use Rattle.std.specs.Prelude.{◌≡◌, ◌⊎◌, ℕ, ◌<◌, List, Bool, true, false, not, ◌&&◌, ◌||◌, ◌==◌, nat_lt, Option, Some, None, is_none, IsTrue, All, Contains, bytes_eq}
-use Rattle.std.specs.List.{list_any, count_by}
+use Rattle.std.specs.Prelude.{◌≡◌, ◌⊎◌, ℕ, ◌<◌, List, Bool, true, false, not, ◌&&◌, ◌||◌, nat_lt, Option, Some, None, is_none, IsTrue, All, Contains, bytes_eq}
+use Rattle.std.specs.List.{list_any}
 use Rattle.disk_model.specs.World.{World, Parts}
 use Rattle.core_events.specs.Events.{Event, Guest, Monitor, Tick}
 use Rattle.core_events.specs.declared.answers.Errno.{Errno}

@@ -1,0 +1,10 @@
+pub mod Outcomes
+pub mod Space
+pub mod Bytes
+pub mod Served
+pub mod Holding
+pub mod Going
+pub mod Cases
+pub mod Laws
+pub mod Opening
+pub mod Closing

@@ -1,0 +1,4 @@
+pub mod Alike
+pub mod Free
+pub mod Looking
+pub mod Raising

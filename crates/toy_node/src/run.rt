@@ -1,0 +1,47 @@
+//! A whole session over it.
+
+ghost use Rattle.std.specs.Prelude.{◌≡◌, ◌-◌, ◌^◌, ◌<◌, ◌≤◌, ℕ, List, [], Option, Some, IsTrue, IfErr};
+ghost use Rattle.disk_model.specs.World.{World, Runs, IsLeftAt};
+ghost use Rattle.core_events.specs.Events as events;
+ghost use Rattle.core_events.specs.Views.{plain_answer};
+ghost use Rattle.plain_model.specs.History.{History};
+ghost use Rattle.plain_model.specs.Step.{IsWhole};
+ghost use Rattle.core_node.specs.Rest.{Directory, Files, AreLawful};
+ghost use Rattle.core_loop.specs.Course.{asked, any_call};
+ghost use Rattle.core_loop.specs.Sessions.{Covers, Session, StoppedFor};
+ghost use Rattle.core_loop.specs.Crashes.{WereThere, Survives};
+ghost use Rattle.toy_image.specs.Images.{Opens};
+ghost use Rattle.toy_core.specs.Toy.{Takes, no_targets};
+
+use crate::node::Core;
+use core_events::Answer;
+use core_loop::{Source, Stop, run_session};
+use disk_model::{Console, Depot, FileNo};
+use std::alloc::Global;
+
+/// Opens the image, carries out the events, and closes it.
+pub fn run_toy<D: Depot + Console, S: Source<D>>(
+    alloc: Global,
+    depot: &mut D,
+    file: FileNo,
+    source: &mut S,
+    answer: &mut Answer,
+) -> Result<(), Stop>
+    requires given { file.0 < (D.world depot.old).given }
+    requires suits { IsTrue (D.world depot.old).tells → Opens ((D.world depot.old).seen file.0) }
+    requires fresh { S.gave source.old ≡ [] }
+    requires few { S.left source.old ≤ 2 ^ 64 - 1 }
+    requires whole { (e : events.Event) → S.gives source.old e → IsWhole e }
+    requires takes { (e : events.Event) → S.gives source.old e → Takes e }
+    // What the session did, and that a crash at any moment of it is survived.
+    ensures session { (files : Files) (allows : List Directory) (h : History) (disks : List (List ℕ)) → IsTrue (D.world depot.old).tells →
+        (D.world depot.old).found ((D.world depot.old).named file.0) ≡ Some file.0 → files.source ≡ file.0 → AreLawful allows files h disks (D.world depot.old) →
+        Covers files (asked (S.gave source.new)) (D.world depot.old) →
+        (session : Session no_targets S.text allows files ((D.world depot.old).named file.0) h disks result (S.over source.new) (S.gave source.new) (plain_answer answer.new) (D.world depot.old) (D.world depot.new)) ×
+        (WereThere files (D.world depot.old) → (k : ℕ) (left : ℕ → Option (List ℕ)) → (D.world depot.old).now ≤ k → k ≤ (D.world depot.new).now → IsLeftAt (D.world depot.new) k left → Survives k left session) }
+    ensures goes { S.goes source.old source.new }
+    ensures cause { IfErr result (λ why. StoppedFor why file.0 (D.world depot.old) (D.world depot.new)) }
+    ensures run { Runs any_call (D.world depot.old) (D.world depot.new) }
+{
+    run_session::<Core, D, S>(alloc, depot, file, source, answer)
+}
