@@ -9,9 +9,10 @@ use Rattle.std.proofs.lemmas.Option.{same_Some}
 use Rattle.std.proofs.lemmas.List.Concat.{flat_map_single}
 use Rattle.qc_layout.specs.Disks.{bits_of, place_of, refcount, reach_of}
 use Rattle.qc_layout.specs.Owners.{Who, Refers}
-use Rattle.qc_layout.specs.Opening.{Check, ImageFault, claim_fault, refused_after, each_below, IsCause}
+use Rattle.qc_layout.specs.declared.faults.ImageFault.{ImageFault}
+use Rattle.qc_layout.specs.Opening.{Check, claim_fault, refused_after, each_below, IsCause}
 use Rattle.qc_layout.specs.Opening.Check.{Refused, Reached, Claim}
-use Rattle.qc_layout.specs.Opening.ImageFault.{PastLimit, Overlap, Uncounted}
+use Rattle.qc_layout.specs.declared.faults.ImageFault.TheVariants.{PastLimit, Overlap, Uncounted}
 
 -- ---- which checks stand in a list
 

@@ -18,8 +18,9 @@ use Rattle.qc_layout.specs.Header.{fields_of, number_fault, first_of, or_else, f
 use Rattle.qc_layout.specs.Disks.{bits_of, blocks_in, block_at, table_at, words_in, place_of}
 use Rattle.qc_layout.specs.Owners.{Who, HostIs, Refers}
 use Rattle.qc_layout.specs.Owners.Who.{Head, Counts, Block, Tables, Table, Guest}
-use Rattle.qc_layout.specs.Opening.{ImageFault, Check, each_below, block_entry, block_named, block_tests, block_claims, count_clusters, count_tests, count_claims, count_checks, slot_checks, slot_of, table_checks, table_clusters, map_checks, image_checks}
-use Rattle.qc_layout.specs.Opening.ImageFault.{BadBlock}
+use Rattle.qc_layout.specs.declared.faults.ImageFault.{ImageFault}
+use Rattle.qc_layout.specs.Opening.{Check, each_below, block_entry, block_named, block_tests, block_claims, count_clusters, count_tests, count_claims, count_checks, slot_checks, slot_of, table_checks, table_clusters, map_checks, image_checks}
+use Rattle.qc_layout.specs.declared.faults.ImageFault.TheVariants.{BadBlock}
 use Rattle.qc_layout.specs.Opening.Check.{Refused, Reached, Claim}
 use Rattle.qc_layout.proofs.Checking.{Has, has_left, has_right, has_each, has_mapped}
 use Rattle.qc_layout.proofs.NumberLaws.{bits_low}
@@ -52,7 +53,7 @@ sized part file none =
     }
 
 -- a range of bytes from a cluster's start on meets the clusters that it fills, the last one in part
-met : (c from n m k : ℕ) → 0 < c → from % c ≡ 0 → n ≤ m * c → from < c * k + c → c * k < from + n → (from / c ≤ k) × (k < from / c + m)
+pub met : (c from n m k : ℕ) → 0 < c → from % c ≡ 0 → n ≤ m * c → from < c * k + c → c * k < from + n → (from / c ≤ k) × (k < from / c + m)
 met c from n m k some whole enough low high =
     let q : ℕ = from / c in
     let e : c * q ≡ from = omega arith in
@@ -73,7 +74,7 @@ place_cluster : (bits k : ℕ) → 512 ≤ 2 ^ bits → place_of bits k / 2 ^ bi
 unfolding place_of
 place_cluster bits k some = mul-div_cancel_left k (omega arith)
 
-named_cluster : (bits x k : ℕ) → 512 ≤ 2 ^ bits → x ≡ place_of bits k → x / 2 ^ bits ≡ k
+pub named_cluster : (bits x k : ℕ) → 512 ≤ 2 ^ bits → x ≡ place_of bits k → x / 2 ^ bits ≡ k
 named_cluster bits x k some is = ap (λ (y : ℕ). y / 2 ^ bits) is ∙ place_cluster bits k some
 
 pub cluster_place : (bits x : ℕ) → 512 ≤ 2 ^ bits → x % 2 ^ bits ≡ 0 → place_of bits (x / 2 ^ bits) ≡ x

@@ -27,3 +27,8 @@ pub mod Claims
 pub mod Orderly
 pub mod Opening
 pub mod OwnerLaws
+pub mod Replaced
+pub mod SameStored
+pub mod Holding
+pub mod DirectoryChecks
+pub mod Loading

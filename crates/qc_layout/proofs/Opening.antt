@@ -11,9 +11,10 @@ use Rattle.qc_layout.specs.Header.{fields_of, number_fault}
 use Rattle.qc_layout.specs.Disks.{bits_of, blocks_in, table_at}
 use Rattle.qc_layout.specs.Owners.{Who}
 use Rattle.qc_layout.specs.Owners.Who.{Guest}
-use Rattle.qc_layout.specs.Opening.{ImageFault, Check, block_entry, block_named, fault_at, table_entry, slot_checks, image_checks, cluster_fault, IsFirst, IsSlot, IsCause}
+use Rattle.qc_layout.specs.declared.faults.ImageFault.{ImageFault}
+use Rattle.qc_layout.specs.Opening.{Check, block_entry, block_named, fault_at, table_entry, slot_checks, image_checks, cluster_fault, IsFirst, IsSlot, IsCause}
 use Rattle.qc_layout.specs.Opening.Check.{Refused, Claim}
-use Rattle.qc_layout.specs.Opening.ImageFault.{BadBlock, Reserved, Compressed, Misaligned, PastLimit, Overlap, Uncounted}
+use Rattle.qc_layout.specs.declared.faults.ImageFault.TheVariants.{BadBlock, Reserved, Compressed, Misaligned, PastLimit, Overlap, Uncounted}
 use Rattle.qc_layout.specs.Room.{IsInOrder, TablesPass}
 use Rattle.qc_layout.proofs.Checking.{Has, IsFine, all_fine, one_owner, first_cause}
 use Rattle.qc_layout.proofs.Claims.{IsSized, IsClean, sized, block_good, has_block_test, has_table_check, has_slot_check, has_claim}
@@ -77,7 +78,7 @@ fault_in_order : (file : List ℕ) (at : ℕ) (fault : EntryFault) → TablesPas
 fault_in_order file at fault pass (inl first) = let good = (pass.tables first.i first.below).1 in let bad = first.is in cc
 fault_in_order file at fault pass (inr slot) = slot_in_order file at (Err fault) pass slot
 
-no_cause : (file : List ℕ) (fault : ImageFault) → TablesPass file → IsCause file fault → ⊥
+pub no_cause : (file : List ℕ) (fault : ImageFault) → TablesPass file → IsCause file fault → ⊥
 no_cause file (BadBlock at) pass is = is.3 (pass.blocks is.0 is.1)
 no_cause file (Reserved at) pass is = fault_in_order file at entry_faults.Reserved pass is
 no_cause file (Compressed at) pass is = slot_in_order file at (Ok entries.Compressed) pass is

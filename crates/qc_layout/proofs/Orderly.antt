@@ -13,7 +13,8 @@ use Rattle.qc_layout.specs.Header.{fields_of}
 use Rattle.qc_layout.specs.Disks.{bits_of, blocks_in, table_at, words_in, place_of}
 use Rattle.qc_layout.specs.Owners.{Who, HostIs, Refers}
 use Rattle.qc_layout.specs.Owners.Who.{Head, Counts, Block, Tables, Table, Guest}
-use Rattle.qc_layout.specs.Opening.{ImageFault, each_below, block_named, block_tests, block_claims, count_clusters, count_tests, count_claims, fault_at, slot_checks, slot_of, table_entry, table_checks, map_checks, image_checks, IsCause, IsFirst, IsSlot}
+use Rattle.qc_layout.specs.declared.faults.ImageFault.{ImageFault}
+use Rattle.qc_layout.specs.Opening.{each_below, block_named, block_tests, block_claims, count_clusters, count_tests, count_claims, fault_at, slot_checks, slot_of, table_entry, table_checks, map_checks, image_checks, IsCause, IsFirst, IsSlot}
 use Rattle.qc_layout.specs.Opening.Check.{Reached, Claim}
 use Rattle.qc_layout.proofs.Checking.{Owners, IsOrderly, orderly_none, orderly_one, orderly_append, orderly_each, orderly_range}
 use Rattle.qc_layout.proofs.Claims.{IsSized, meeting, cluster_place, block_bad, block_some}

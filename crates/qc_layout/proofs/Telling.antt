@@ -217,9 +217,11 @@ module _ (part : Part) (h : Header) (file name : List ℕ) (new : IsNew part h) 
   backed_tells = record {
     tells = all_told;
     name_stands = (stands_right format_words name stand).read;
-    format = λ es are. (
+    format = (
+      (tells_passes part file h all_told).extensions,
+      (tells_passes part file h all_told).listed,
       extension_at backing_kind (behind_own h) 5,
-      ap (first_of_kind backing_kind) (told_list part file h all_told es are) ∙ own_no_backing 112 h.own (extension_at backing_kind (behind_own h) 5 ∷ []),
+      ap (first_of_kind backing_kind) (told_list part file h all_told (tells_passes part file h all_told).extensions (tells_passes part file h all_told).listed) ∙ own_no_backing 112 h.own (extension_at backing_kind (behind_own h) 5 ∷ []),
       sym (reading-reading file (behind_own h) 24 8 5 (omega arith)) ∙ ap (λ (l : List ℕ). reading l 8 5) words.read ∙ format_content,
     );
   }

@@ -248,8 +248,3 @@ writable_fits h w =
     let header = tail_long h (numbers_pass parts.Source 512 h.fields w.numbers) w.tail in
     let room = w.room in
     omega (arith, ap length (header_parts h), own_of_source h.own w.own, bitmaps_short h.bitmaps)
-
--- ---- what is read from some file is read from each that begins with its sector
-
-pub written_again : (part : Part) (h : Header) (file written : List ℕ) → IsSmall h → Spells part file h → BeginsWith written h → Spells part written h
-written_again part h file written small s begins = writable_spelled part h written (spelled_writable part h file small s) begins

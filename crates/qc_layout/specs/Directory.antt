@@ -12,6 +12,8 @@ use Rattle.bitmap_model.specs.Granules.{granules_in, set_of, none_of}
 use Rattle.bitmap_model.specs.Bitmap.{StoredBitmap}
 use Rattle.bitmap_model.specs.Bitmaps.{is_name, most_bitmaps}
 use Rattle.qc_layout.specs.declared.extension.Extension.{Extension}
+use Rattle.qc_layout.specs.declared.faults.DirFault.{DirFault}
+use Rattle.qc_layout.specs.declared.faults.DirFault.TheVariants.{TooManyEntries, Entries, Flags, Kind, Granularity, ExtraData, NameForm, SameName, TableSize, TableEntry, Tail}
 use Rattle.qc_layout.specs.declared.header.DirPlace.{DirPlace}
 use Rattle.qc_layout.specs.declared.header.Own.{Own}
 use Rattle.qc_layout.specs.declared.header.Own.TheVariants as owns
@@ -198,19 +200,6 @@ span_under file (Some offset) i = span_at file (span_place offset i)
 
 -- ---- the rules of a directory, in the order in which they are tested
 
-pub data DirectoryFault : Type 0 where
-  TooManyEntries : DirectoryFault
-  Entries : DirectoryFault
-  Flags : DirectoryFault
-  Kind : DirectoryFault
-  Granularity : DirectoryFault
-  ExtraData : DirectoryFault
-  NameForm : DirectoryFault
-  SameName : DirectoryFault
-  TableSize : DirectoryFault
-  TableEntry : DirectoryFault
-  Tail : DirectoryFault
-
 -- the greatest size of a directory: 64 entries with the longest names
 abbrev pub longest_directory : ℕ
 longest_directory = 67072
@@ -238,7 +227,7 @@ abbrev pub has_granularity : ℕ → ListedBitmap → Bool
 has_granularity size b = nat_le 9 b.head.granularity_bits && (nat_le b.head.granularity_bits 31 && nat_le (granules_of size b) (2 ^ 27))
 
 -- why entry b is refused by its numbers and its name, where these entries stand before it
-abbrev pub head_fault : List ℕ → List ListedBitmap → ListedBitmap → Option DirectoryFault
+abbrev pub head_fault : List ℕ → List ListedBitmap → ListedBitmap → Option DirFault
 head_fault file before b =
     if not (b.head.flags / 8 == 0) then Some Flags
     else if not (b.head.kind == 1) then Some Kind
@@ -250,28 +239,28 @@ head_fault file before b =
     else None
 
 -- the first fault that is found at these numbers
-abbrev pub first_fault : (ℕ → Option DirectoryFault) → List ℕ → Option DirectoryFault
+abbrev pub first_fault : (ℕ → Option DirFault) → List ℕ → Option DirFault
 first_fault fault [] = None
 first_fault fault (i ∷ is) = option_or (fault i) (first_fault fault is)
 
 -- why entry i of its table is refused
-abbrev pub word_fault : List ℕ → ListedBitmap → ℕ → Option DirectoryFault
+abbrev pub word_fault : List ℕ → ListedBitmap → ℕ → Option DirFault
 word_fault file b i =
     if is_bad_word (bits_of file) (table_word file b i) then Some TableEntry
     else if not (is_in_use b) && has_tail file b i then Some Tail
     else None
 
 -- why its table is refused
-abbrev pub table_fault : List ℕ → ListedBitmap → Option DirectoryFault
+abbrev pub table_fault : List ℕ → ListedBitmap → Option DirFault
 table_fault file b = first_fault (word_fault file b) (range_with_len 0 b.head.table_size)
 
 -- a fault, and the number of the entry that has it
 pub record RefusedEntry : Type 0 where
   pub entry : ℕ
-  pub fault : DirectoryFault
+  pub fault : DirFault
 
 -- the first of these entries that is refused, where others stand before them
-abbrev pub first_refused : (List ListedBitmap → ListedBitmap → Option DirectoryFault) → List ListedBitmap → List ListedBitmap → Option RefusedEntry
+abbrev pub first_refused : (List ListedBitmap → ListedBitmap → Option DirFault) → List ListedBitmap → List ListedBitmap → Option RefusedEntry
 first_refused fault before [] = None
 first_refused fault before (b ∷ bs) =
     option_or (option_map (λ found. record { entry = length before; fault = found }) (fault before b)) (first_refused fault (before ++ b ∷ []) bs)
@@ -280,7 +269,7 @@ first_refused fault before (b ∷ bs) =
 abbrev pub listed_fault : List ℕ → List ListedBitmap → Option RefusedEntry
 listed_fault file bs = option_or (first_refused (head_fault file) [] bs) (first_refused (λ before b. table_fault file b) [] bs)
 
-abbrev pub refused : ℕ → DirectoryFault → Option RefusedEntry
+abbrev pub refused : ℕ → DirFault → Option RefusedEntry
 refused entry fault = Some (record { entry = entry; fault = fault })
 
 -- why a directory is refused; that its clusters are named once and counted is no rule of these

@@ -21,7 +21,7 @@ pub record Passes (part : Part) (file : List ℕ) : Type 0 where
 
 -- the first extension of this kind has this content
 abbrev pub HasExtension : List ℕ → ℕ → List ℕ → Type 0
-HasExtension file kind content = (es : List Extension) → AreIn file es → (e : Extension) × (first_of_kind kind es ≡ Some e) × (reading file e.place e.length ≡ content)
+HasExtension file kind content = (es : List Extension) × AreIn file es × (e : Extension) × (first_of_kind kind es ≡ Some e) × (reading file e.place e.length ≡ content)
 
 -- This project's extension stands in the list from here on, as far as that can be read, and has 64 bytes: it is the first of its kind.
 abbrev pub IsBackupFrom : List ℕ → ℕ → ℕ → Type 0

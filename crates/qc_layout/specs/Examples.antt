@@ -10,7 +10,8 @@ use Rattle.qc_layout.specs.declared.writing.Word.TheVariants.{Four, Eight}
 use Rattle.qc_layout.specs.Header.{qcow2_magic}
 use Rattle.qc_layout.specs.Spelling.{words_bytes, number_bytes, own_bytes, bitmaps_bytes, sector_with}
 use Rattle.qc_layout.specs.Owners.{Held, Directory, BitsTable, Bits, Spans, Bitmaps, Owns}
-use Rattle.qc_layout.specs.Directory.{SameName, TableEntry, Tail, refused, directory_fault, stored_in, spans_in}
+use Rattle.qc_layout.specs.declared.faults.DirFault.TheVariants.{SameName, TableEntry, Tail}
+use Rattle.qc_layout.specs.Directory.{refused, directory_fault, stored_in, spans_in}
 
 -- the numbers of an image for a disk of 4096 bytes
 abbrev pub numbers : ℕ → Fields

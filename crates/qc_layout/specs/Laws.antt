@@ -1,19 +1,24 @@
 -- The laws, as statements.
-use Rattle.std.specs.Prelude.{◌≡◌, ◌↔◌, ℕ, ◌<◌, ◌≤◌, max, List, [], length, take, Some, None, Contains}
-use Rattle.disk_model.specs.Files.{reading}
+use Rattle.std.specs.Prelude.{◌≡◌, ◌≢◌, ◌↔◌, ℕ, ◌+◌, ◌^◌, ◌<◌, ◌≤◌, max, List, [], length, take, Some, None, Contains}
+use Rattle.disk_model.specs.Files.{byte, reading, overlay}
 use Rattle.bitmap_model.specs.Bitmaps.{AreShapedEntries}
 use Rattle.qc_layout.specs.declared.extension.Extension.{Extension}
 use Rattle.qc_layout.specs.declared.header.Header.{Header}
 use Rattle.qc_layout.specs.declared.header.HeaderFault.{HeaderFault}
+use Rattle.qc_layout.specs.declared.header.Own.TheVariants as owns
 use Rattle.qc_layout.specs.declared.header.Part.{Part}
+use Rattle.qc_layout.specs.declared.header.Part.TheVariants as parts
 use Rattle.qc_layout.specs.Header.{fields_of, number_fault}
 use Rattle.qc_layout.specs.Extensions.{AreExtensions, list_end}
-use Rattle.qc_layout.specs.Disks.{IsReadAs, Stands}
-use Rattle.qc_layout.specs.Opening.{ImageFault, cluster_fault, IsCause}
+use Rattle.qc_layout.specs.Disks.{IsReadAs, Stands, bits_of, place_of, reach_of, refcount}
+use Rattle.qc_layout.specs.declared.faults.ImageFault.{ImageFault}
+use Rattle.qc_layout.specs.declared.faults.ImageFault.TheVariants.{BadBlock, Reserved, Compressed, Misaligned, PastLimit, Overlap, Uncounted}
+use Rattle.qc_layout.specs.Opening.{cluster_fault, IsCause}
 use Rattle.qc_layout.specs.Room.{TablesPass}
 use Rattle.qc_layout.specs.Spelling.{Spells, IsHeaderOf, IsFault}
-use Rattle.qc_layout.specs.Directory.{ListedBitmap, directory_in, own_of, listed_in, directory_fault, stored_in}
-use Rattle.qc_layout.specs.Owners.{Held, Holds}
+use Rattle.qc_layout.specs.Directory.{ListedBitmap, directory_in, own_of, listed_in, spans_in, directory_fault, stored_in}
+use Rattle.qc_layout.specs.Owners.{Held, Holds, Owner, Owns, Counted}
+use Rattle.qc_layout.specs.Loading.{LoadFault, Cluster, Listed, image_fault}
 
 -- one list of extensions at most stands in a place
 abbrev pub OneListing : Type 0
@@ -100,3 +105,51 @@ StoredIsShaped = (file : List ℕ) → AreShapedEntries (fields_of file).size (s
 abbrev pub OwnersByName : Type 0
 OwnersByName = (file : List ℕ) (listed other : List ListedBitmap) (held : Held) (k : ℕ) → ((b : ListedBitmap) → Contains listed b → Contains other b)
     → Holds file listed held k → Holds file other held k
+
+-- ---- a whole opening
+
+-- an image whose clusters and bitmaps pass: its tables and its directory are in order, and each cluster that something refers to has one owner and is counted
+pub record IsLoadable (file : List ℕ) : Type 0 where
+  pub passes : TablesPass file
+  pub directory : directory_fault file ≡ None
+  pub counted : Counted file
+
+-- where a source's header is spelled, an opening refuses nothing exactly where the image passes
+abbrev pub LoadingIsExact : Type 0
+LoadingIsExact = (file : List ℕ) (h : Header) → Spells parts.Source file h → (image_fault file ≡ None) ↔ IsLoadable file
+
+-- a cluster is refused for an entry, or for who owns it, bitmaps among them
+abbrev pub IsOwnerCause : List ℕ → ImageFault → Type 0
+IsOwnerCause file (BadBlock at) = IsCause file (BadBlock at)
+IsOwnerCause file (Reserved at) = IsCause file (Reserved at)
+IsOwnerCause file (Compressed at) = IsCause file (Compressed at)
+IsOwnerCause file (Misaligned at) = IsCause file (Misaligned at)
+IsOwnerCause file (PastLimit offset) = (k : ℕ) × (owner : Owner) × (offset ≡ place_of (bits_of file) k) × Owns file owner k × (reach_of file ≤ k)
+IsOwnerCause file (Overlap offset) =
+    (k : ℕ) × (owner : Owner) × (other : Owner) × (offset ≡ place_of (bits_of file) k) × Owns file owner k × Owns file other k × (owner ≢ other)
+IsOwnerCause file (Uncounted offset) = (k : ℕ) × (owner : Owner) × (offset ≡ place_of (bits_of file) k) × Owns file owner k × (refcount file k ≡ 0)
+
+-- and an entry of the directory is so where it is the first that breaks a rule of directories
+abbrev pub IsLoadCause : List ℕ → LoadFault → Type 0
+IsLoadCause file (Cluster fault) = IsOwnerCause file fault
+IsLoadCause file (Listed refused) = directory_fault file ≡ Some refused
+
+abbrev pub LoadsHaveCauses : Type 0
+LoadsHaveCauses = (file : List ℕ) (h : Header) (fault : LoadFault) → Spells parts.Source file h → image_fault file ≡ Some fault → IsLoadCause file fault
+
+-- ---- bytes that change
+
+-- A backup's record replaced in place by another of 64 bytes: the header says the same, with that record.
+abbrev pub RecordsAreReplaced : Type 0
+RecordsAreReplaced = (file old other : List ℕ) (h : Header) → IsHeaderOf parts.Target file h → h.own ≡ owns.Target old → length other ≡ 64
+    → (g : Header) × IsHeaderOf parts.Target (overlay file h.own_at other) g × SameHeader (record h { own = owns.Target other }) g
+
+-- the same header, and the same bytes in each cluster that bitmaps hold
+pub record HoldAlike (a b : List ℕ) : Type 0 where
+  pub start : BeginAlike (start_length a) a b
+  pub held : (held : Held) (k i : ℕ) → Holds a (listed_in a) held k → place_of (bits_of a) k ≤ i → i < place_of (bits_of a) k + 2 ^ bits_of a → byte b i ≡ byte a i
+
+-- What is stored lies in the header and in the clusters that bitmaps hold. A table of spans that is named and not used may lie elsewhere, and must not become one.
+abbrev pub StoredWhereHeld : Type 0
+StoredWhereHeld = (a b : List ℕ) (h : Header) → Spells parts.Source a h → directory_fault a ≡ None → (spans_in a ≡ None → spans_in b ≡ None) → HoldAlike a b
+    → (stored_in b ≡ stored_in a) × (directory_fault b ≡ None) × ((held : Held) (k : ℕ) → Holds b (listed_in b) held k ↔ Holds a (listed_in a) held k)

@@ -6,9 +6,12 @@ use Rattle.std.specs.Option.{option_or}
 use Rattle.bitmap_model.specs.Bitmaps.{most_bitmaps}
 use Rattle.qc_layout.specs.declared.header.DirPlace.{DirPlace}
 use Rattle.qc_layout.specs.Disks.{bits_of}
-use Rattle.qc_layout.specs.Directory.{ListedBitmap, RefusedEntry, DirectoryFault, TooManyEntries, Entries, TableEntry, Tail, Piece, Zeros, Ones, Data, directory_in, listed_from, end_from, longest_directory, first_refused, head_fault, refused, table_word, piece_at, is_bad_word, is_in_use, has_tail, spans_in, spans_size}
+use Rattle.qc_layout.specs.declared.faults.DirFault.{DirFault}
+use Rattle.qc_layout.specs.declared.faults.DirFault.TheVariants.{TooManyEntries, Entries, TableEntry, Tail}
+use Rattle.qc_layout.specs.Directory.{ListedBitmap, RefusedEntry, Piece, Zeros, Ones, Data, directory_in, listed_from, end_from, longest_directory, first_refused, head_fault, refused, table_word, piece_at, is_bad_word, is_in_use, has_tail, spans_in, spans_size}
 use Rattle.qc_layout.specs.Owners.{Held, Directory, BitsTable, Bits, Spans}
-use Rattle.qc_layout.specs.Opening.{ImageFault, Check, claim_fault, image_checks, cluster_fault}
+use Rattle.qc_layout.specs.declared.faults.ImageFault.{ImageFault}
+use Rattle.qc_layout.specs.Opening.{Check, claim_fault, image_checks, cluster_fault}
 use Rattle.qc_layout.specs.Opening.Check.{Refused, Reached, Claim}
 
 -- what is refused: a cluster, or an entry of the directory
@@ -27,7 +30,7 @@ bitmaps_refused_after file claimed [] = None
 bitmaps_refused_after file claimed (Rule refused ∷ checks) = elim refused [ Some found ↦ Some (Listed found) | None ↦ bitmaps_refused_after file claimed checks ]
 bitmaps_refused_after file claimed (Hold held k ∷ checks) = elim (claim_fault file claimed k) [ Some found ↦ Some (Cluster found) | None ↦ bitmaps_refused_after file (k ∷ claimed) checks ]
 
-abbrev pub refused_if : Bool → ℕ → DirectoryFault → Option RefusedEntry
+abbrev pub refused_if : Bool → ℕ → DirFault → Option RefusedEntry
 refused_if fails entry fault = if fails then refused entry fault else None
 
 -- the clusters that n bytes from a cluster's start on fill, each held so

@@ -7,24 +7,13 @@ use Rattle.qc_layout.specs.declared.entry.EntryFault.{EntryFault}
 use Rattle.qc_layout.specs.declared.entry.EntryFault.TheVariants as entry_faults
 use Rattle.qc_layout.specs.declared.entry.L2Entry.{L2Entry}
 use Rattle.qc_layout.specs.declared.entry.L2Entry.TheVariants as entries
+use Rattle.qc_layout.specs.declared.faults.ImageFault.{ImageFault}
+use Rattle.qc_layout.specs.declared.faults.ImageFault.TheVariants.{BadBlock, Reserved, Compressed, Misaligned, PastLimit, Overlap, Uncounted}
 use Rattle.qc_layout.specs.Entries.{l2_of}
 use Rattle.qc_layout.specs.Header.{fields_of}
 use Rattle.qc_layout.specs.Disks.{bits_of, blocks_in, block_at, table_at, reach_of, refcount, words_in, place_of}
 use Rattle.qc_layout.specs.Owners.{Who, Refers}
 use Rattle.qc_layout.specs.Owners.Who.{Head, Counts, Block, Tables, Table, Guest}
-
--- what is refused: an entry, by its own place in the file, or a cluster, by its offset
-pub data ImageFault : Type 0 where
-  -- of the refcount table
-  BadBlock : (at : ℕ) → ImageFault
-  -- of the two levels
-  Reserved : (at : ℕ) → ImageFault
-  Compressed : (at : ℕ) → ImageFault
-  Misaligned : (at : ℕ) → ImageFault
-  -- a cluster that no refcount reaches, one that something else refers to, and one that isn't counted
-  PastLimit : (offset : ℕ) → ImageFault
-  Overlap : (offset : ℕ) → ImageFault
-  Uncounted : (offset : ℕ) → ImageFault
 
 -- one step of an opening: an entry that is refused, a cluster that must lie below the reach, or one that its owner refers to
 pub data Check : Type 0 where

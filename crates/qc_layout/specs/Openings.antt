@@ -4,7 +4,7 @@ use Rattle.qc_layout.specs.declared.header.Part.TheVariants as parts
 use Rattle.qc_layout.specs.Header.{qcow2_magic, fields_of, number_fault}
 use Rattle.qc_layout.specs.Spelling.{word32, word64}
 use Rattle.qc_layout.specs.Opening.{cluster_fault}
-use Rattle.qc_layout.specs.Opening.ImageFault.{BadBlock, Reserved, Compressed, PastLimit, Overlap, Uncounted}
+use Rattle.qc_layout.specs.declared.faults.ImageFault.TheVariants.{BadBlock, Reserved, Compressed, PastLimit, Overlap, Uncounted}
 
 -- a disk of 64 clusters; its refcount table is cluster 1, and its first level cluster 3
 abbrev pub head : List ℕ

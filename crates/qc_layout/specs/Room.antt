@@ -1,5 +1,5 @@
 -- Tables that are in order, and which clusters of an image can still be handed out (qcow2 specification, "Host cluster management").
-use Rattle.std.specs.Prelude.{◌≡◌, ℕ, ◌+◌, ◌-◌, ◌*◌, ◌%◌, ◌^◌, ◌<◌, ◌≤◌, List, length, Bool, ◌&&◌, nat_lt, ◌==◌, if◌then◌else◌, Option, Some, Result, Ok, Err}
+use Rattle.std.specs.Prelude.{◌≡◌, ℕ, ◌+◌, ◌-◌, ◌*◌, ◌/◌, ◌%◌, ◌^◌, ◌<◌, ◌≤◌, max, List, length, Bool, ◌&&◌, nat_lt, ◌==◌, if◌then◌else◌, Option, Some, Result, Ok, Err}
 use Rattle.std.specs.List.{range_with_len, count_by}
 use Rattle.disk_model.specs.Files.{u64_at}
 use Rattle.qc_layout.specs.declared.entry.EntryFault.{EntryFault}
@@ -57,3 +57,24 @@ pub record HasRoom (file : List ℕ) (room : ℕ) : Type 0 where
   pub next : ℕ
   pub is_next : IsNextFree file next
   pub count : room ≡ room_from file next
+
+-- ---- neighbours
+
+-- Clusters are handed out upwards from n on. Where the block that counts one is missing, the first of those that it counts becomes it.
+abbrev pub BecomesBlock : List ℕ → ℕ → ℕ → Type 0
+BecomesBlock file n k = (block_at file (k / counts_in (bits_of file)) ≡ 0) × (k ≡ max n (k / counts_in (bits_of file) * counts_in (bits_of file)))
+
+-- so many neighbours from `first` on can be handed out together: they lie below the reach, and none becomes a block
+pub record IsRun (file : List ℕ) (n count first : ℕ) : Type 0 where
+  pub from : n ≤ first
+  pub below : first + count ≤ reach_of file
+  pub plain : (k : ℕ) → first ≤ k → k < first + count → BecomesBlock file n k → ⊥
+
+-- the first such
+pub record IsFirstRun (file : List ℕ) (n count first : ℕ) : Type 0 where
+  pub is : IsRun file n count first
+  pub least : (other : ℕ) → IsRun file n count other → first ≤ other
+
+-- none is left
+abbrev pub HasNoRun : List ℕ → ℕ → Type 0
+HasNoRun file count = (n first : ℕ) → IsNextFree file n → IsRun file n count first → ⊥

@@ -2,7 +2,7 @@
 
 ghost use Rattle.qc_layout.specs.Openings.{OpeningsRefuse};
 ghost use Rattle.qc_layout.specs.Examples.{DirectoriesAreRead, ClustersAreHeld};
-ghost use Rattle.qc_layout.specs.Laws.{OneListing, OneFault, FaultOrHeader, OneHeader, FromStart, OneDisk, OpeningIsExact, RefusalsHaveCauses, FindsAsSpelled, NoDirectoryStoresNothing, StoredIsShaped, OwnersByName};
+ghost use Rattle.qc_layout.specs.Laws.{OneListing, OneFault, FaultOrHeader, OneHeader, FromStart, OneDisk, OpeningIsExact, RefusalsHaveCauses, FindsAsSpelled, NoDirectoryStoresNothing, StoredIsShaped, OwnersByName, LoadingIsExact, LoadsHaveCauses, RecordsAreReplaced, StoredWhereHeld};
 
 /// One list of extensions at most stands in a place.
 pub fn one_listing()
@@ -79,4 +79,24 @@ pub fn openings_refuse()
 /// Worked examples of clusters that are held for bitmaps.
 pub fn clusters_are_held()
     ensures { ClustersAreHeld }
+{}
+
+/// An opening refuses nothing of a source's clusters and bitmaps exactly where they pass the rules.
+pub fn loading_is_exact()
+    ensures { LoadingIsExact }
+{}
+
+/// What it refuses has a cause: an entry that says so, who owns the cluster, or the directory's first fault.
+pub fn loads_have_causes()
+    ensures { LoadsHaveCauses }
+{}
+
+/// A backup's record may be replaced in place, and the header says the same besides.
+pub fn records_are_replaced()
+    ensures { RecordsAreReplaced }
+{}
+
+/// What a file stores of bitmaps lies in its header and in the clusters that bitmaps hold.
+pub fn stored_where_held()
+    ensures { StoredWhereHeld }
 {}

@@ -8,6 +8,7 @@ mod checks;
 mod contents;
 mod entry;
 mod extension;
+mod faults;
 mod header;
 mod kind;
 pub mod laws;
@@ -21,6 +22,7 @@ mod writing;
 pub use entry::{
     EntryFault, L2Entry, OFLAG_COMPRESSED, OFLAG_COPIED, OFLAG_ZERO, read_l1, read_l2, write_l2,
 };
+pub use faults::{DirFault, ImageFault};
 pub use header::{DirPlace, Fields, Header, HeaderFault, Own, Part, QCOW_MAGIC};
 pub use kind::{kind_of, start_length};
 pub use reading::read_header;

@@ -2,7 +2,7 @@
 
 ghost use Rattle.std.specs.Prelude.{◌≡◌, ◌≤◌, ◌<◌, ◌^◌, ℕ, List, length, min};
 ghost use Rattle.disk_model.specs.Files.{reading};
-ghost use Rattle.qc_layout.specs.Spelling.{Spells, Fits, IsSmall, sector_of, Puts, word_bytes, words_bytes, number_words, head_words, IsSmallWord, AreSmallWords, tail_bytes, own_bytes, bitmaps_bytes, tail_length, IsSmallOwn, AreSmallBitmaps};
+ghost use Rattle.qc_layout.specs.Spelling.{Spells, Fits, IsSmall, sector_of, Puts, word_bytes, words_bytes, number_words, head_words, IsSmallWord, AreSmallWords, tail_bytes, own_bytes, bitmaps_bytes, tail_length, IsSmallOwn, AreSmallBitmaps, IsWritable};
 ghost use Rattle.qc_layout.specs.declared.header.Part.{Part};
 
 use crate::extension::{BITMAPS_KIND, OWN_KIND};
@@ -165,6 +165,9 @@ pub fn write_header(header: &Header, out: &mut [u8; 512])
     ensures small { IsSmall header.now }
     // A header that is read from some file is read from each file that begins with the sector.
     ensures reads_back { (part : Part) (file written : List ℕ) → Spells part file header.now → Fits header.now →
+        512 ≤ length written → reading written 0 512 ≡ out.new → Spells part written header.now }
+    // So is one that no file spells yet, where it can be written.
+    ensures writes { (part : Part) (written : List ℕ) → IsWritable part header.now → Fits header.now →
         512 ≤ length written → reading written 0 512 ≡ out.new → Spells part written header.now }
 {
     *out = [0; 512];

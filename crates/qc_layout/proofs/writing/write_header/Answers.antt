@@ -3,7 +3,7 @@ use Rattle.std.proofs.lemmas.List.{take_all}
 use Rattle.qc_layout.specs.Spelling.{tail_length}
 use Rattle.qc_layout.proofs.Puts.{puts_on, puts_as, drop_least}
 use Rattle.qc_layout.proofs.Words.{header_parts}
-use Rattle.qc_layout.proofs.Written.{BeginsWith, written_again}
+use Rattle.qc_layout.proofs.Written.{writable_spelled, spelled_writable}
 use Rattle.qc_layout.proofs.writing.write_header.Goals as goal
 
 pub slice_bounds-put-count : goal.slice_bounds-put-count
@@ -26,8 +26,10 @@ returns-clause-sector c room =
 pub returns-clause-small : goal.returns-clause-small
 returns-clause-small c = record { numbers = c.put_numbers-numbers.ensures.small; own = c.put_own-own.ensures.small; bitmaps = c.put_bitmaps-bitmaps.ensures.small }
 
+pub returns-clause-writes : goal.returns-clause-writes
+returns-clause-writes c part written writable room long read =
+    writable_spelled part c.args.header.now written writable (record { fits = room; long = long; sector = read ∙ returns-clause-sector c room })
+
 pub returns-clause-reads_back : goal.returns-clause-reads_back
-returns-clause-reads_back c part file written spelled room long read =
-    let small = returns-clause-small c in
-    let begins : BeginsWith written c.args.header.now = record { fits = room; long = long; sector = read ∙ returns-clause-sector c room } in
-    written_again part c.args.header.now file written small spelled begins
+returns-clause-reads_back c part file written spelled =
+    returns-clause-writes c part written (spelled_writable part c.args.header.now file (returns-clause-small c) spelled)
