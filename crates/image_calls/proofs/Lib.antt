@@ -1,3 +1,4 @@
+pub mod Beside
 pub mod FirstSectors
 pub mod NewFiles
 pub mod Refusing

@@ -1,9 +1,11 @@
 //! Counts of clusters.
 
-ghost use Rattle.std.specs.Prelude.{◌≡◌, ℕ, List, [], ◌∷◌, ◌+◌, ◌*◌, ◌^◌, ◌<◌, ◌≤◌, length, Bool, OnOk, IsTrue};
+ghost use Rattle.std.specs.Prelude.{◌≡◌, ℕ, List, [], ◌∷◌, ◌+◌, ◌*◌, ◌^◌, ◌<◌, ◌≤◌, length, Bool, OnOk, IsTrue, ◌⊎◌};
+ghost use Rattle.disk_model.specs.Files.{u64_at};
 ghost use Rattle.file_device.specs.Calls.{Puts, Synced};
+ghost use Rattle.file_device.specs.File.{file_of, IsSettled};
 ghost use Rattle.image_model.specs.Clusters.{Shape, each, place, IsShape, IsBlock, IsSafe, IsStanding, Moves, Reads};
-ghost use Rattle.image_model.specs.Calls.{Told, IsToppingUp, IsAddingBlock, IsSettling, AreExactly, Rests, LeavesGuest, LeavesCounts, HasCounts, last_after};
+ghost use Rattle.image_model.specs.Calls.{Told, IsToppingUp, IsAddingBlock, IsSettling, AreExactly, Rests, LeavesGuest, LeavesCounts, HasCounts, IsBareBlock, CountsNoOther, EndsBy, last_after, SameTables, SameBlocks, SameBlocksBut, SameBeside, IsWithin};
 
 use disk_model::{Depot, Failed, FileNo};
 use file_device::{sync, write};
@@ -28,6 +30,22 @@ pub fn top_up<D: Depot>(
     ensures leaves { (s : Shape) (disks : List (List ℕ)) (first last q i low n : ℕ) →
         IsToppingUp s last q i low n spot finish file.0 counts.now (D.world depot.old) →
         Reads file.0 (IsStanding s disks first last file.0) (LeavesGuest s) (D.world depot.old) (D.world depot.new) }
+
+    // Whatever it answers, no other count changes, and the file ends with the last of the clusters.
+    ensures others { (s : Shape) (disks : List (List ℕ)) (first last q i low n : ℕ) →
+        IsToppingUp s last q i low n spot finish file.0 counts.now (D.world depot.old) →
+        Reads file.0 (IsStanding s disks first last file.0) (LeavesCounts s last n) (D.world depot.old) (D.world depot.new) }
+    ensures ends { (s : Shape) (disks : List (List ℕ)) (first last q i low n : ℕ) →
+        IsToppingUp s last q i low n spot finish file.0 counts.now (D.world depot.old) →
+        Reads file.0 (IsStanding s disks first last file.0) (EndsBy finish) (D.world depot.old) (D.world depot.new) }
+
+    // Whatever it answers, no word of the refcount table and of the first level changes.
+    ensures rows { (s : Shape) (disks : List (List ℕ)) (first last q i low n : ℕ) →
+        IsToppingUp s last q i low n spot finish file.0 counts.now (D.world depot.old) →
+        Reads file.0 (IsStanding s disks first last file.0) (λ old new. SameTables s old new × SameBlocks s old new) (D.world depot.old) (D.world depot.new) }
+
+    // It writes no other byte.
+    ensures frame { IsTrue (D.world depot.old).tells → SameBeside (λ b. IsWithin b finish 1 ⊎ IsWithin b spot (length counts.now)) ((D.world depot.old).seen file.0) ((D.world depot.new).seen file.0) }
 
     ensures puts { Puts file.0 (D.world depot.old) (D.world depot.new) result }
 {
@@ -63,7 +81,36 @@ pub fn add_block<D: Depot>(
 
     ensures linked { OnOk result ((s : Shape) (disks : List (List ℕ)) (first last i slot : ℕ) →
         IsAddingBlock s i last slot spot finish end at word file.0 (D.world depot.old) →
-        Reads file.0 (IsStanding s disks first last file.0) (λ old new. IsBlock s new i last) (D.world depot.old) (D.world depot.new)) }
+        Reads file.0 (IsStanding s disks first last file.0) (λ old new. IsBlock s new i last × (CountsNoOther s i last old → IsBareBlock s i last new))
+        (D.world depot.old) (D.world depot.new)) }
+
+    // Whatever it answers, the table's word is as it was, or names the block.
+    ensures either { (s : Shape) (disks : List (List ℕ)) (first last i slot : ℕ) →
+        IsAddingBlock s i last slot spot finish end at word file.0 (D.world depot.old) →
+        Reads file.0 (IsStanding s disks first last file.0) (λ old new. (u64_at new at ≡ u64_at old at) ⊎ IsBlock s new i last)
+        (D.world depot.old) (D.world depot.new) }
+
+    // Whatever it answers: where the cluster counted no other, it doesn't.
+    ensures bare { (s : Shape) (disks : List (List ℕ)) (first last i slot : ℕ) →
+        IsAddingBlock s i last slot spot finish end at word file.0 (D.world depot.old) →
+        Reads file.0 (IsStanding s disks first last file.0) (λ old new. CountsNoOther s i last old → CountsNoOther s i last new) (D.world depot.old)
+        (D.world depot.new) }
+
+    // Whatever it answers, no count of another block changes, and the file ends with the cluster.
+    ensures others { (s : Shape) (disks : List (List ℕ)) (first last i slot : ℕ) →
+        IsAddingBlock s i last slot spot finish end at word file.0 (D.world depot.old) →
+        Reads file.0 (IsStanding s disks first last file.0) (LeavesCounts s (each s * i) (each s)) (D.world depot.old) (D.world depot.new) }
+    ensures ends { (s : Shape) (disks : List (List ℕ)) (first last i slot : ℕ) →
+        IsAddingBlock s i last slot spot finish end at word file.0 (D.world depot.old) →
+        Reads file.0 (IsStanding s disks first last file.0) (EndsBy finish) (D.world depot.old) (D.world depot.new) }
+
+    // Whatever it answers, no other word of the refcount table changes, and none of the first level.
+    ensures rows { (s : Shape) (disks : List (List ℕ)) (first last i slot : ℕ) →
+        IsAddingBlock s i last slot spot finish end at word file.0 (D.world depot.old) →
+        Reads file.0 (IsStanding s disks first last file.0) (λ old new. SameTables s old new × SameBlocksBut s i old new) (D.world depot.old) (D.world depot.new) }
+
+    // It writes no other byte.
+    ensures frame { IsTrue (D.world depot.old).tells → SameBeside (λ b. IsWithin b finish 1 ⊎ (IsWithin b spot 2 ⊎ IsWithin b at 8)) ((D.world depot.old).seen file.0) ((D.world depot.new).seen file.0) }
 
     ensures puts { Puts file.0 (D.world depot.old) (D.world depot.new) result }
 {
@@ -89,6 +136,8 @@ pub fn rest<D: Depot>(depot: &mut D, file: FileNo) -> Result<(), Failed>
         Told (AreExactly s taken) file.0 (D.world depot.old) →
         Moves file.0 (IsSafe s disks) (IsStanding s disks first last file.0) (Rests s ((D.world depot.new).seen file.0 ∷ []) taken last file.0)
         (D.world depot.old) (D.world depot.new)) }
+
+    ensures settled { OnOk result (IsSettled (file_of (D.world depot.new) file.0)) }
 
     ensures synced { Synced file.0 (D.world depot.old) (D.world depot.new) result }
 {
@@ -121,6 +170,14 @@ pub fn settle_counts<D: Depot>(
         IsSettling s taken q i low n spot counts.now → Told (λ c. IsBlock s c i q) file.0 (D.world depot.old) →
         Reads file.0 (Rests s disks taken last file.0) (λ old new. HasCounts s (each s * i + low) n counts.now new) (D.world depot.old)
         (D.world depot.new)) }
+
+    // Whatever it answers, no word of the refcount table and of the first level changes.
+    ensures rows { (s : Shape) (disks : List (List ℕ)) (taken : ℕ → Bool) (last q i low n : ℕ) → IsShape s →
+        IsSettling s taken q i low n spot counts.now → Told (λ c. IsBlock s c i q) file.0 (D.world depot.old) →
+        Reads file.0 (Rests s disks taken last file.0) (λ old new. SameTables s old new × SameBlocks s old new) (D.world depot.old) (D.world depot.new) }
+
+    // It writes no other byte.
+    ensures frame { IsTrue (D.world depot.old).tells → SameBeside (λ b. IsWithin b spot (length counts.now)) ((D.world depot.old).seen file.0) ((D.world depot.new).seen file.0) }
 
     ensures puts { Puts file.0 (D.world depot.old) (D.world depot.new) result }
 {

@@ -1,9 +1,10 @@
 //! Opening.
 
-ghost use Rattle.std.specs.Prelude.{◌≡◌, ℕ, List, [], ◌∷◌, ◌+◌, ◌*◌, ◌^◌, ◌<◌, ◌≤◌, length, OnOk, IsTrue};
+ghost use Rattle.std.specs.Prelude.{◌≡◌, ℕ, List, [], ◌∷◌, ◌+◌, ◌*◌, ◌^◌, ◌<◌, ◌≤◌, length, OnOk, IsTrue, ◌⊎◌};
+ghost use Rattle.disk_model.specs.World.{EachSinceSync};
 ghost use Rattle.file_device.specs.Calls.{Puts, Synced};
 ghost use Rattle.image_model.specs.Clusters.{Shape, place, IsSafe, IsStanding, Moves};
-ghost use Rattle.image_model.specs.Calls.{Told, IsOpened, AreInside, Begins};
+ghost use Rattle.image_model.specs.Calls.{Told, IsOpened, AreInside, Begins, SameBeside, IsWithin};
 
 use disk_model::{Depot, Failed, FileNo};
 use file_device::{sync, write};
@@ -18,6 +19,10 @@ pub fn begin<D: Depot>(depot: &mut D, file: FileNo) -> Result<(), Failed>
     ensures stands { OnOk result ((s : Shape) (next : ℕ) → Told (IsOpened s next) file.0 (D.world depot.old) →
         Told (AreInside s) file.0 (D.world depot.old) →
         IsStanding s ((D.world depot.new).seen file.0 ∷ []) next next file.0 (D.world depot.new)) }
+
+    // By what reads gave alone: of each crash since a sync that succeeded.
+    ensures crash { (s : Shape) (next : ℕ) → Told (IsOpened s next) file.0 (D.world depot.old) →
+        EachSinceSync (D.world depot.old) (D.world depot.new) file.0 (IsSafe s ((D.world depot.old).seen file.0 ∷ [])) }
 
     // Until it ends a crash leaves what it might have left before, and so where it failed.
     ensures synced { Synced file.0 (D.world depot.old) (D.world depot.new) result }
@@ -36,6 +41,9 @@ pub fn extend<D: Depot>(depot: &mut D, file: FileNo, finish: u64) -> Result<(), 
     ensures stands { OnOk result ((s : Shape) (next : ℕ) (found : List ℕ) → finish + 1 ≡ place s next → length found ≤ finish →
         Moves file.0 (IsSafe s (found ∷ [])) (Begins s next found file.0) (IsStanding s (found ∷ []) next next file.0) (D.world depot.old)
         (D.world depot.new)) }
+
+    // It writes no other byte.
+    ensures frame { IsTrue (D.world depot.old).tells → SameBeside (λ b. IsWithin b finish 1) ((D.world depot.old).seen file.0) ((D.world depot.new).seen file.0) }
 
     ensures puts { Puts file.0 (D.world depot.old) (D.world depot.new) result }
 {

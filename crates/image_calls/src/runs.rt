@@ -1,12 +1,12 @@
 //! A guest's clusters next to one another: data first, then the entries that name it.
 
-ghost use Rattle.std.specs.Prelude.{◌≡◌, ◌⊎◌, ℕ, List, ◌∷◌, ◌+◌, ◌*◌, ◌^◌, ◌<◌, ◌≤◌, length, OnOk, Err};
+ghost use Rattle.std.specs.Prelude.{◌≡◌, ◌⊎◌, ℕ, List, ◌∷◌, ◌+◌, ◌*◌, ◌^◌, ◌<◌, ◌≤◌, length, OnOk, Err, IsTrue};
 ghost use Rattle.disk_model.specs.Files.{u64_at};
 ghost use Rattle.file_device.specs.Calls.{Puts};
-ghost use Rattle.image_model.specs.Clusters.{Shape, IsSafe, IsStanding, Moves, Reads};
-ghost use Rattle.image_model.specs.Calls.{LeavesGuest};
+ghost use Rattle.image_model.specs.Clusters.{Shape, SameIn, IsSafe, IsStanding, Moves, Reads};
+ghost use Rattle.image_model.specs.Calls.{LeavesGuest, SameTables, SameBlocks, SameBeside, IsWithin};
 ghost use Rattle.image_model.specs.Runs.{IsFilling, IsHolding, HasData, IsLinking, LeavesRest, IsLinked, AreAsBefore, AreLinked, IsStored, AreStored};
-ghost use Rattle.image_calls.specs.declared.runs.NotStored.TheVariants.{Data};
+ghost use Rattle.image_calls.specs.declared.runs.NotStored.TheVariants.{Data, Entries};
 
 use disk_model::{Depot, Failed, FileNo};
 use file_device::write;
@@ -47,6 +47,14 @@ pub fn write_data<D: Depot>(
         IsFilling s first last k n at (length bytes.now) file.0 (D.world depot.old) →
         Reads file.0 (IsStanding s disks first last file.0) (λ old new. HasData s k n at bytes.now new) (D.world depot.old) (D.world depot.new)) }
 
+    // Whatever it answers, no word of the refcount table and of the first level changes.
+    ensures rows { (s : Shape) (disks : List (List ℕ)) (first last k n : ℕ) →
+        IsFilling s first last k n at (length bytes.now) file.0 (D.world depot.old) →
+        Reads file.0 (IsStanding s disks first last file.0) (λ old new. SameTables s old new × SameBlocks s old new) (D.world depot.old) (D.world depot.new) }
+
+    // It writes no other byte.
+    ensures frame { IsTrue (D.world depot.old).tells → SameBeside (λ b. IsWithin b at (length bytes.now)) ((D.world depot.old).seen file.0) ((D.world depot.new).seen file.0) }
+
     ensures puts { Puts file.0 (D.world depot.old) (D.world depot.new) result }
 {
     write(depot, file, at, bytes)
@@ -67,6 +75,12 @@ pub fn link<D: Depot>(depot: &mut D, file: FileNo, spot: u64, entries: &[u8]) ->
         IsLinking s first k n q i j spot file.0 entries.now (D.world depot.old) →
         Reads file.0 (IsHolding s disks k n first last file.0) (LeavesRest s i j n) (D.world depot.old) (D.world depot.new) }
 
+    // And the data stays in its clusters.
+    ensures stays { (s : Shape) (disks : List (List ℕ)) (first last k n q i j : ℕ) →
+        IsLinking s first k n q i j spot file.0 entries.now (D.world depot.old) →
+        Reads file.0 (IsHolding s disks k n first last file.0) (λ old new. (m : ℕ) → m < n → SameIn s (k + m) old new) (D.world depot.old)
+        (D.world depot.new) }
+
     // The entries of each sector are as they were, or all of them name their clusters.
     ensures either { (s : Shape) (disks : List (List ℕ)) (first last k n q i j : ℕ) →
         IsLinking s first k n q i j spot file.0 entries.now (D.world depot.old) →
@@ -77,6 +91,14 @@ pub fn link<D: Depot>(depot: &mut D, file: FileNo, spot: u64, entries: &[u8]) ->
         IsLinking s first k n q i j spot file.0 entries.now (D.world depot.old) →
         Reads file.0 (IsHolding s disks k n first last file.0) (λ old new. (m : ℕ) → m < n →
         IsLinked s i (j + m) (k + m) (u64_at entries.now (8 * m)) old new) (D.world depot.old) (D.world depot.new)) }
+
+    // Whatever it answers, no word of the refcount table and of the first level changes.
+    ensures rows { (s : Shape) (disks : List (List ℕ)) (first last k n q i j : ℕ) →
+        IsLinking s first k n q i j spot file.0 entries.now (D.world depot.old) →
+        Reads file.0 (IsHolding s disks k n first last file.0) (λ old new. SameTables s old new × SameBlocks s old new) (D.world depot.old) (D.world depot.new) }
+
+    // It writes no other byte.
+    ensures frame { IsTrue (D.world depot.old).tells → SameBeside (λ b. IsWithin b spot (length entries.now)) ((D.world depot.old).seen file.0) ((D.world depot.new).seen file.0) }
 
     ensures puts { Puts file.0 (D.world depot.old) (D.world depot.new) result }
 {
@@ -114,6 +136,12 @@ pub fn write_run<D: Depot>(
         IsLinking s (k + n) k n q i j spot file.0 entries.now (D.world depot.old) →
         Reads file.0 (IsStanding s disks first last file.0) (LeavesGuest s) (D.world depot.old) (D.world depot.new) }
 
+    // Where the entries weren't, the data is in its clusters.
+    ensures held { result ≡ Err Entries → (s : Shape) (disks : List (List ℕ)) (first last k n q i j : ℕ) →
+        IsFilling s first last k n at (length bytes.now) file.0 (D.world depot.old) →
+        IsLinking s (k + n) k n q i j spot file.0 entries.now (D.world depot.old) →
+        Reads file.0 (IsStanding s disks first last file.0) (λ old new. HasData s k n at bytes.now new) (D.world depot.old) (D.world depot.new) }
+
     // The entries of each sector are as they were, or all of them name their clusters, which show the data.
     ensures either { (s : Shape) (disks : List (List ℕ)) (first last k n q i j : ℕ) →
         IsFilling s first last k n at (length bytes.now) file.0 (D.world depot.old) →
@@ -126,6 +154,15 @@ pub fn write_run<D: Depot>(
         IsLinking s (k + n) k n q i j spot file.0 entries.now (D.world depot.old) →
         Reads file.0 (IsStanding s disks first last file.0) (λ old new. (m : ℕ) → m < n →
         IsStored s i (j + m) (k + m) (u64_at entries.now (8 * m)) at bytes.now new) (D.world depot.old) (D.world depot.new)) }
+
+    // Whatever it answers, no word of the refcount table and of the first level changes.
+    ensures rows { (s : Shape) (disks : List (List ℕ)) (first last k n q i j : ℕ) →
+        IsFilling s first last k n at (length bytes.now) file.0 (D.world depot.old) →
+        IsLinking s (k + n) k n q i j spot file.0 entries.now (D.world depot.old) →
+        Reads file.0 (IsStanding s disks first last file.0) (λ old new. SameTables s old new × SameBlocks s old new) (D.world depot.old) (D.world depot.new) }
+
+    // It writes no other byte.
+    ensures frame { IsTrue (D.world depot.old).tells → SameBeside (λ b. IsWithin b at (length bytes.now) ⊎ IsWithin b spot (length entries.now)) ((D.world depot.old).seen file.0) ((D.world depot.new).seen file.0) }
 
     ensures puts { Puts file.0 (D.world depot.old) (D.world depot.new) result }
 {

@@ -58,7 +58,7 @@ pub fn after_turn<D: Depot>(depot: &mut D, file: FileNo) -> Result<(), Failed>
 
     ensures stands { OnOk result ((s t : Shape) (disks : List (List ℕ)) (first last : ℕ) (sector : List ℕ) →
         Turning s t disks first last sector file.0 (D.world depot.old) → IsTrue (D.world depot.new).tells →
-        Standing s ((D.world depot.new).seen file.0 ∷ []) first last file.0 (D.world depot.new) ⊎ Standing t ((D.world depot.new).seen file.0 ∷ []) first last file.0 (D.world depot.new)) }
+        Standing s ((D.world depot.new).seen file.0 ∷ []) first last file.0 (D.world depot.new) ⊎ (Standing t ((D.world depot.new).seen file.0 ∷ []) first last file.0 (D.world depot.new) × IsShape t)) }
 
     ensures synced { Synced file.0 (D.world depot.old) (D.world depot.new) result }
 {

@@ -11,8 +11,12 @@ use Rattle.qc_layout.specs.declared.records.RecordFault.TheVariants as record_fa
 use Rattle.qc_layout.specs.Spelling.{Spells, IsFault}
 use Rattle.qc_layout.specs.Records.{record_fault}
 use Rattle.qc_layout.specs.Disks.{bits_of}
-use Rattle.qc_layout.specs.Directory.{RefusedEntry, DirectoryFault, TooManyEntries, Entries, Flags, Kind, Granularity, ExtraData, NameForm, SameName, TableSize, TableEntry, Tail}
-use Rattle.qc_layout.specs.Opening.{ImageFault, BadBlock, Reserved, Compressed, Misaligned, PastLimit, Overlap, Uncounted, cluster_fault}
+use Rattle.qc_layout.specs.declared.faults.DirFault.{DirFault}
+use Rattle.qc_layout.specs.declared.faults.DirFault.TheVariants.{TooManyEntries, Entries, Flags, Kind, Granularity, ExtraData, NameForm, SameName, TableSize, TableEntry, Tail}
+use Rattle.qc_layout.specs.Directory.{RefusedEntry}
+use Rattle.qc_layout.specs.declared.faults.ImageFault.{ImageFault}
+use Rattle.qc_layout.specs.declared.faults.ImageFault.TheVariants.{BadBlock, Reserved, Compressed, Misaligned, PastLimit, Overlap, Uncounted}
+use Rattle.qc_layout.specs.Opening.{cluster_fault}
 use Rattle.qc_layout.specs.Loading.{Cluster, Listed, image_fault}
 
 -- ---- the texts, by the names of the rules
@@ -53,7 +57,7 @@ record_reason record_faults.RecordUnit = codes "RecordUnit"
 abbrev pub numbered : List ℕ → ℕ → List ℕ
 numbered name n = name ++ codes " " ++ decimal n
 
-abbrev pub listing_reason : DirectoryFault → List ℕ
+abbrev pub listing_reason : DirFault → List ℕ
 listing_reason TooManyEntries = codes "TooManyEntries"
 listing_reason Entries = codes "Entries"
 listing_reason Flags = codes "Flags"

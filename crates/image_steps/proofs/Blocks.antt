@@ -1,13 +1,14 @@
 -- Counts: of fresh clusters that become ready, of a block of its own, and settled ones.
 use Rattle.std.proofs.Common.{◌≡◌, ◌≢◌, ◌⊎◌, inl, inr, ⊎_elim, ℕ, ◌+◌, ◌-◌, ◌*◌, ◌<◌, ◌≤◌, IsTrue, Bool, true, false, List, [], ◌∷◌, length, refl, sym, ◌∙◌, ap, subst, arith}
-use Rattle.std.proofs.lemmas.Bool.{cases_eq, cases_lt}
+use Rattle.std.specs.Prelude.{if◌then◌else◌}
+use Rattle.std.proofs.lemmas.Bool.{cases_eq, cases_lt, eq-eqb, ne_eqb}
 use Rattle.std.specs.Int.{from_be_bytes, w16, w64}
 use Rattle.disk_model.specs.Files.{byte, reading, number_at, u16_at, u64_at, overlay, IsTorn}
 use Rattle.disk_model.proofs.Laws.{whole_torn, u16_bytes, number-overlay_part, number_either, number-overlay_same, byte-overlay_in, byte-overlay_outside, length-overlay}
 use Rattle.image_model.specs.Clusters.{Shape, size, each, place, Who, Head, Bitmaps, Counts, Block, Tables, Table, Guest, IsBlock, IsCounted, Use, Free, Fresh, Spare, Ready, Of, IsTaken, IsBlank, IsFixed, IsZero, IsShape, Lies, IsOwnCount, IsGood}
-use Rattle.image_model.specs.Calls.{IsTopUp, AreOnes, IsNewBlock, IsSettling, AreNamed, Keeps, SameGuest}
+use Rattle.image_model.specs.Calls.{IsTopUp, AreOnes, IsNewBlock, IsSettling, AreNamed, Keeps, SameGuest, LeavesCounts, CountsNoOther}
 use Rattle.image_steps.proofs.Places.{Spares, Elsewhere, torn_spares, spares_more, within, half_spared, place_apart, place_next, place_more, sector_at}
-use Rattle.image_steps.proofs.Steps.{taken_of, quiet_keeps, quiet_forms, data_keeps, counted_on, quiet_counts, block_elsewhere, block_keeps, block_forms, block_on}
+use Rattle.image_steps.proofs.Steps.{taken_of, quiet_keeps, quiet_forms, data_keeps, counted_on, same_count, quiet_counts, block_elsewhere, block_keeps, block_forms, block_on}
 use Rattle.image_steps.proofs.Good.{Change, recast, torn_byte}
 use Rattle.image_steps.proofs.Kept.{outer_kept}
 use Rattle.image_steps.proofs.Naming.{quiet_alike}
@@ -42,6 +43,11 @@ module _ (s : Shape) (some : 0 < s.sectors) (role : ℕ → Use) (old new : List
       half_spared (place s q + 2 * low) (2 * n) old new (place s c.block + 2 * c.slot) narrow
       (⊎_elim (λ (before : k < each s * i0 + low). inl (omega (arith, before, is, at))) (λ (past : each s * i0 + low + n ≤ k). inr (omega (arith, past, is, at))) out) ∙ c.count)
       (count_where k many c))
+
+  -- counts of other blocks are the same
+  pub counted_apart : LeavesCounts s (each s * i0) (each s) old new
+  counted_apart k many c out = counted_out 0 (each s) (spares_more (place s q) (size s) (place s q + 2 * 0) (2 * each s) old new (omega arith) (omega arith) spares) k many c
+      (⊎_elim (λ (before : k < each s * i0). inl (omega arith)) (λ (past : each s * i0 + each s ≤ k). inr (omega arith)) out)
 
   pub counts_keep : ((t : ℕ) → t < each s → IsBlock s old i0 q → IsTaken (role (each s * i0 + t)) → 0 < u16_at old (place s q + 2 * t) → 0 < u16_at new (place s q + 2 * t))
       → ((t : ℕ) → t < each s → role (each s * i0 + t) ≡ Ready → u16_at old (place s q + 2 * t) ≡ 1 → u16_at new (place s q + 2 * t) ≡ 1) → Lies s role new
@@ -227,16 +233,19 @@ module _ {s : Shape} {q i low n last spot finish : ℕ} (is : IsTopUp s q i low 
           fixed = λ fixed. absurd (subst IsFixed (ready m from to) fixed);
         }
 
+-- a block that is linked lies in the file
+pub block_inside : (s : Shape) (role : ℕ → Use) (q i : ℕ) (file : List ℕ) → role q ≡ Of (Block i) → IsBlock s file i q → Lies s role file → place s q + size s ≤ length file
+block_inside s role q i file is_block linked lies = (lies.used q (taken_of role q (Block i) is_block) (λ b e. subst (λ (x : ℕ). IsBlock s file x q) (same_block b e) linked)).inside
+  where
+    same_block : (b : ℕ) → role q ≡ Of (Block b) → i ≡ b
+    same_block b e = cc
+
 -- ---- a half that a torn write within a linked block met is as before, or as the write made it
 
 pub block_half : (s : Shape) (role : ℕ → Use) (q i at t : ℕ) (bytes old new : List ℕ) → role q ≡ Of (Block i) → IsBlock s old i q → Lies s role old → IsTorn at bytes old new → t < each s
     → (u16_at new (place s q + 2 * t) ≡ u16_at old (place s q + 2 * t)) ⊎ (u16_at new (place s q + 2 * t) ≡ u16_at (overlay old at bytes) (place s q + 2 * t))
 block_half s role q i at t bytes old new is_block linked lies torn t_in =
-    number_either w16 at bytes old new (place s q + 2 * t) torn (omega (arith, sector_at s q 0))
-    (omega (arith, torn.no_shorter, (lies.used q (taken_of role q (Block i) is_block) (λ b e. subst (λ (x : ℕ). IsBlock s old x q) (same_block b e) linked)).inside, t_in))
-  where
-    same_block : (b : ℕ) → role q ≡ Of (Block b) → i ≡ b
-    same_block b e = cc
+    number_either w16 at bytes old new (place s q + 2 * t) torn (omega (arith, sector_at s q 0)) (omega (arith, torn.no_shorter, block_inside s role q i old is_block linked lies, t_in))
 
 one_half : u16_at (0 ∷ 1 ∷ []) 0 ≡ 1
 unfolding number_at reading
@@ -249,6 +258,15 @@ half_with_one file at low = subst (λ (n : ℕ). 0 < n) (sym (u16_bytes file at 
   where
     pair_some : (a : ℕ) → 0 < from_be_bytes w16 (a ∷ 1 ∷ [])
     pair_some a = omega arith
+
+half_none : (file : List ℕ) (at : ℕ) → u16_at file at ≡ 0 → (byte file at ≡ 0) × (byte file (at + 1) ≡ 0)
+half_none file at none = by_bytes (byte file at) (byte file (at + 1)) (sym (u16_bytes file at) ∙ none)
+  where
+    by_bytes : (a b : ℕ) → from_be_bytes w16 (a ∷ b ∷ []) ≡ 0 → (a ≡ 0) × (b ≡ 0)
+    by_bytes a b e = (omega (arith, e), omega (arith, e))
+
+none_half : (file : List ℕ) (at : ℕ) → byte file at ≡ 0 → byte file (at + 1) ≡ 0 → u16_at file at ≡ 0
+none_half file at high low = u16_bytes file at ∙ ap (λ (a : ℕ). from_be_bytes w16 (a ∷ byte file (at + 1) ∷ [])) high ∙ ap (λ (b : ℕ). from_be_bytes w16 (0 ∷ b ∷ [])) low
 
 module _ {s : Shape} {i last slot spot finish end at word : ℕ} (is : IsNewBlock s i last slot spot finish end at word) (some : 0 < s.sectors) (role : ℕ → Use) (is_block : role last ≡ Of (Block i)) (disks : List (List ℕ))
     (fresh : (t : ℕ) → slot < t → t < each s → role (each s * i + t) ≡ Fresh) where
@@ -270,6 +288,12 @@ module _ {s : Shape} {i last slot spot finish end at word : ℕ} (is : IsNewBloc
   finish_low : place s last ≤ finish
   finish_low = omega (arith, is.finish_is, place_next s last, some)
 
+  end_one : slot + 1 ≡ each s → end ≡ 1
+  end_one own_end = is.end_is ∙ ap (λ (b : Bool). if b then 1 else 0) (eq-eqb (slot + 1) (each s) own_end)
+
+  end_none : slot + 1 ≢ each s → end ≡ 0
+  end_none not_end = is.end_is ∙ ap (λ (b : Bool). if b then 1 else 0) (ne_eqb (slot + 1) (each s) not_end)
+
   growth_spares : (bytes old new : List ℕ) → length bytes ≡ 1 → IsTorn finish bytes old new → Spares finish 1 old new
   growth_spares bytes old new one torn = spares_more finish (length bytes) finish 1 old new (omega arith) (omega (arith, one)) (torn_spares finish bytes old new torn)
 
@@ -287,7 +311,7 @@ module _ {s : Shape} {i last slot spot finish end at word : ℕ} (is : IsNewBloc
               let own_end : slot + 1 ≡ each s = omega (arith, last_slot, not_past, is.slot_in) in
               let at_finish : place s last + 2 * t + 1 ≡ finish = omega (arith, last_slot, is.finish_is, place_next s last) in
               let low_byte : byte (overlay old finish bytes) (place s last + 2 * t + 1) ≡ 1 =
-              byte-overlay_in old finish bytes (place s last + 2 * t + 1) (omega (arith, at_finish)) (omega (arith, at_finish, one)) ∙ (let e : place s last + 2 * t + 1 - finish ≡ 0 = omega (arith, at_finish) in ap (byte bytes) e) ∙ is_end ∙ is.end_is own_end in
+              byte-overlay_in old finish bytes (place s last + 2 * t + 1) (omega (arith, at_finish)) (omega (arith, at_finish, one)) ∙ (let e : place s last + 2 * t + 1 - finish ≡ 0 = omega (arith, at_finish) in ap (byte bytes) e) ∙ is_end ∙ end_one own_end in
               ⊎_elim
               (λ (same : u16_at new (place s last + 2 * t) ≡ u16_at old (place s last + 2 * t)). subst (λ (n : ℕ). 0 < n) (sym same) was)
               (λ (done : u16_at new (place s last + 2 * t) ≡ u16_at (overlay old finish bytes) (place s last + 2 * t)). subst (λ (n : ℕ). 0 < n) (sym done) (half_with_one (overlay old finish bytes) (place s last + 2 * t) low_byte))
@@ -326,6 +350,36 @@ module _ {s : Shape} {i last slot spot finish end at word : ℕ} (is : IsNewBloc
         | inl here ↦ absurd (own_not_ready t here ready)
       ])
 
+  -- it counts no other, where it didn't
+  pub growth_bare : (bytes old new : List ℕ) → length bytes ≡ 1 → byte bytes 0 ≡ end → IsTorn finish bytes old new → CountsNoOther s i last old → CountsNoOther s i last new
+  growth_bare bytes old new one is_end torn none t t_in other = elim (cases_lt (t + 1) (each s)) [
+    | inl before ↦ half_spared finish 1 old new (place s last + 2 * t) narrow (inl (omega (arith, before, is.finish_is, place_next s last))) ∙ none t t_in other
+    | inr end_here ↦
+        let at_finish : place s last + 2 * t + 1 ≡ finish = omega (arith, end_here, t_in, is.finish_is, place_next s last) in
+        let was = half_none old (place s last + 2 * t) (none t t_in other) in
+        none_half new (place s last + 2 * t) (narrow.bytes (place s last + 2 * t) (inl (omega (arith, at_finish))) ∙ was.0)
+        (⊎_elim
+        (λ (zero : byte new (place s last + 2 * t + 1) ≡ 0). zero)
+        (λ rest. ⊎_elim
+        (λ (same : byte new (place s last + 2 * t + 1) ≡ byte old (place s last + 2 * t + 1)). same ∙ was.1)
+        (λ (done : byte new (place s last + 2 * t + 1) ≡ byte (overlay old finish bytes) (place s last + 2 * t + 1)). done ∙ written at_finish (λ own. other (omega (arith, own, end_here, t_in, is.is))))
+        rest)
+        (torn_byte finish bytes old new (place s last + 2 * t + 1) torn))
+  ]
+    where
+      narrow : Spares finish 1 old new
+      narrow = growth_spares bytes old new one torn
+
+      written : place s last + 2 * t + 1 ≡ finish → slot + 1 ≢ each s → byte (overlay old finish bytes) (place s last + 2 * t + 1) ≡ 0
+      written at_finish inner =
+          byte-overlay_in old finish bytes (place s last + 2 * t + 1) (omega (arith, at_finish)) (omega (arith, at_finish, one))
+          ∙ (let e : place s last + 2 * t + 1 - finish ≡ 0 = omega (arith, at_finish) in ap (byte bytes) e) ∙ is_end ∙ end_none inner
+
+  pub count_bare : (old new : List ℕ) → IsTorn spot (0 ∷ 1 ∷ []) old new → CountsNoOther s i last old → CountsNoOther s i last new
+  count_bare old new torn none t t_in other = half_spared spot 2 old new (place s last + 2 * t) (torn_spares spot (0 ∷ 1 ∷ []) old new torn)
+      (elim (cases_lt t slot) [ inl before ↦ inl (omega (arith, before, is.spot_is)) | inr behind ↦ inr (elim (cases_eq t slot) [ inl same ↦ absurd (other (omega (arith, same, is.is))) | inr differ ↦ omega (arith, behind, differ, is.spot_is) ]) ])
+      ∙ none t t_in other
+
   -- the block is there, but for its entry
   abbrev pub IsPrepared : List ℕ → Type 0
   IsPrepared file = (u16_at file (place s last + 2 * slot) ≡ 1) × (place s last + size s ≤ length file)
@@ -353,10 +407,14 @@ module _ {s : Shape} {i last slot spot finish end at word : ℕ} (is : IsNewBloc
     some_count : (old : List ℕ) → IsPrepared old → 0 < u16_at old (place s last + 2 * slot)
     some_count old has = omega (arith, has.0)
 
+    row_elsewhere : (old : List ℕ) → IsGood s role disks old → IsPrepared old → Elsewhere s role (Of Counts) old (overlay old row bytes)
+    row_elsewhere old good has =
+        block_elsewhere s some role old (overlay old row bytes) good.lies i last slot is.inside is.some is.is is.slot_in is_block (only_here old good.lies) (some_count old has) is.reach has.1 (row_spares old) (set old)
+
     pub block_linked : (old : List ℕ) → IsGood s role disks old → IsPrepared old → IsGood s role disks (overlay old row bytes)
     block_linked old good has =
         let new = overlay old row bytes in
-        let elsewhere = block_elsewhere s some role old new good.lies i last slot is.inside is.some is.is is.slot_in is_block (only_here old good.lies) (some_count old has) is.reach has.1 (row_spares old) (set old) in
+        let elsewhere = row_elsewhere old good has in
         record {
           lies = block_keeps s some role old new good.lies i last slot is.inside is.some is.is is.slot_in is_block (only_here old good.lies) (some_count old has) is.reach has.1 (row_spares old) (set old);
           forms = block_forms s some role old new good.lies i last slot is.inside is.some is.is is.slot_in is_block (only_here old good.lies) (some_count old has) is.reach has.1 (row_spares old) (set old) good.forms;
@@ -366,7 +424,7 @@ module _ {s : Shape} {i last slot spot finish end at word : ℕ} (is : IsNewBloc
     pub block_row_keeps : (old : List ℕ) → IsGood s role disks old → IsPrepared old → Keeps s old (overlay old row bytes)
     block_row_keeps old good has =
         let new = overlay old row bytes in
-        let elsewhere = block_elsewhere s some role old new good.lies i last slot is.inside is.some is.is is.slot_in is_block (only_here old good.lies) (some_count old has) is.reach has.1 (row_spares old) (set old) in
+        let elsewhere = row_elsewhere old good has in
         record {
           blocks = block_on s some role old new good.lies i last slot is.inside is.some is.is is.slot_in is_block (only_here old good.lies) (some_count old has) is.reach has.1 (row_spares old) (set old);
           tables = frame.table_on s some role old new good.lies (Of Counts) elsewhere (λ e. cc);
@@ -375,8 +433,17 @@ module _ {s : Shape} {i last slot spot finish end at word : ℕ} (is : IsNewBloc
     pub block_row_alike : (old : List ℕ) → IsGood s role disks old → IsPrepared old → SameGuest s old (overlay old row bytes)
     block_row_alike old good has =
         let new = overlay old row bytes in
-        let elsewhere = block_elsewhere s some role old new good.lies i last slot is.inside is.some is.is is.slot_in is_block (only_here old good.lies) (some_count old has) is.reach has.1 (row_spares old) (set old) in
+        let elsewhere = row_elsewhere old good has in
         quiet_alike s some role old new good.lies good.forms (Of Counts) elsewhere (λ e. cc) (λ n e. cc) (λ n m e. cc)
+
+    -- no count changes
+    pub block_row_counts : (old : List ℕ) → IsGood s role disks old → IsPrepared old → (k many : ℕ) → IsCounted s old k many → IsCounted s (overlay old row bytes) k many
+    block_row_counts old good has k many c =
+        let new = overlay old row bytes in
+        counted_on s some role old new good.lies (Of Counts) (row_elsewhere old good has) (block_row_keeps old good has).blocks k many c (same_count s some role old new good.lies (Of Counts) (row_elsewhere old good has) (λ x e. cc) k many c)
+
+    pub block_row_half : (old : List ℕ) → IsGood s role disks old → IsPrepared old → (t : ℕ) → t < each s → u16_at (overlay old row bytes) (place s last + 2 * t) ≡ u16_at old (place s last + 2 * t)
+    block_row_half old good has t t_in = frame.half_in s some role old (overlay old row bytes) good.lies (Of Counts) (row_elsewhere old good has) last t (λ e. let b = is_block in cc) t_in
 
 -- the block's cluster was fresh
 pub own_change : (s : Shape) (role role_on : ℕ → Use) (i last : ℕ) (file : List ℕ) → IsOwnCount s i last → role last ≡ Fresh → role_on last ≡ Of (Block i) → ((m : ℕ) → m ≢ last → role_on m ≡ role m) → Lies s role file → Lies s role_on file

@@ -13,19 +13,15 @@ use Rattle.qc_layout.specs.Header.{fields_of}
 use Rattle.qc_layout.specs.Extensions.{list_end}
 use Rattle.qc_layout.specs.Spelling.{IsHeaderOf}
 use Rattle.qc_layout.specs.Laws.{BeginAlike}
-use Rattle.qc_layout.specs.Disks.{bits_of, place_of, words_in, counts_in, blocks_in, block_at, table_at, refcount, reach_of}
-use Rattle.qc_layout.specs.Owners.{HostIs, TablesCounted}
+use Rattle.qc_layout.specs.Disks.{bits_of, place_of, counts_in, blocks_in, block_at, table_at, refcount, reach_of}
+use Rattle.qc_layout.specs.Owners.{Held, HostIs, TablesCounted}
 use Rattle.qc_layout.specs.Owners as owners
-use Rattle.qc_layout.specs.Directory.{directory_in}
-use Rattle.qc_layout.proofs.Directories.{stores_nothing}
-use Rattle.qc_layout.proofs.OwnerLaws.{counted_bare}
-use Rattle.qc_layout.specs.Room.{TablesPass, IsInOrder, IsFreeFrom}
+use Rattle.qc_layout.specs.Room.{TablesPass, IsInOrder}
 use Rattle.qc_layout.proofs.Starts.{alike_fields, header_from_start}
 use Rattle.image_model.specs.Clusters.{Shape, size, per, each, place, offset, Who, Head, Counts, Block, Tables, Table, Guest, Bitmaps, IsTable, Refers, IsCounted, AllCounted, IsOffset, IsPlace, Forms, IsShape, SameIn, IsSafe}
-use Rattle.image_model.specs.Calls.{IsOpened, AreExactly, AreSettled}
 use Rattle.image_steps.proofs.Places.{place_zero, place_some, place_step}
 use Rattle.image_steps.proofs.Standing.{same_index}
-use Rattle.image_steps.proofs.Words.{IsPlain1, IsPlain2, offset_same, l1_plain, l1_at, l1_some, l1_says, l2_plain, l2_order, l2_host, l2_back, place_is, words_are, counts_are, whole, parts, table_plain, plain_table, guest_plain, plain_guest}
+use Rattle.image_steps.proofs.Words.{IsPlain1, IsPlain2, offset_same, l1_at, l1_some, l1_says, l2_order, l2_host, l2_back, place_is, words_are, counts_are, whole, table_plain, guest_plain}
 
 -- the numbers of a file's own header
 pub record IsHeaded (s : Shape) (file : List ℕ) : Type 0 where
@@ -88,8 +84,13 @@ unembed-embed owners.Tables = refl
 unembed-embed (owners.Table i) = refl
 unembed-embed (owners.Guest i j) = refl
 
-embed_one : (a b : owners.Who) → embed a ≡ embed b → a ≡ b
+pub embed_one : (a b : owners.Who) → embed a ≡ embed b → a ≡ b
 embed_one a b same = sym (unembed-embed a) ∙ ap unembed same ∙ unembed-embed b
+
+-- with what bitmaps hold
+abbrev pub owner_as : owners.Owner → Who
+owner_as (owners.Image a) = embed a
+owner_as (owners.Bitmaps held) = Bitmaps held
 
 module _ (s : Shape) (file : List ℕ) (is : IsHeaded s file) where
   abbrev bits : ℕ
@@ -98,7 +99,7 @@ module _ (s : Shape) (file : List ℕ) (is : IsHeaded s file) where
   pub row_word : (i : ℕ) → u64_at file ((fields_of file).l1_table_offset + 8 * i) ≡ u64_at file (s.l1 + 8 * i)
   row_word i = ap (λ (at : ℕ). u64_at file (at + 8 * i)) is.l1
 
-  count_word : (i : ℕ) → u64_at file ((fields_of file).refcount_table_offset + 8 * i) ≡ u64_at file (s.counts + 8 * i)
+  pub count_word : (i : ℕ) → u64_at file ((fields_of file).refcount_table_offset + 8 * i) ≡ u64_at file (s.counts + 8 * i)
   count_word i = ap (λ (at : ℕ). u64_at file (at + 8 * i)) is.counts
 
   at_place : (k : ℕ) → place_of bits k ≡ place s k
@@ -114,7 +115,7 @@ module _ (s : Shape) (file : List ℕ) (is : IsHeaded s file) where
   some_cluster k more = elim (cases_eq k 0) [ inl none ↦ absurd (omega (arith, more, ap (place s) none, place_zero s)) | inr not ↦ omega (arith, not) ]
 
   -- block i lies there
-  block_word : (i k : ℕ) → IsOffset s (u64_at file (s.counts + 8 * i)) → block_at file i ≡ u64_at file (s.counts + 8 * i)
+  pub block_word : (i k : ℕ) → IsOffset s (u64_at file (s.counts + 8 * i)) → block_at file i ≡ u64_at file (s.counts + 8 * i)
   block_word i k form = ap (λ (w : ℕ). w / 512 * 512) (count_word i) ∙ whole_sector (u64_at file (s.counts + 8 * i)) form
     where
       whole_sector : (w : ℕ) → IsOffset s w → w / 512 * 512 ≡ w
@@ -300,84 +301,21 @@ safe_passes s disks file shape long safe = tables_pass s shape file long safe.co
 pub safe_header : (s : Shape) (disks : List (List ℕ)) (file : List ℕ) (part : Part) (h : Header) → IsShape s → 104 ≤ length s.base → IsSafe s disks file → IsHeaderOf part s.base h → IsHeaderOf part file h
 safe_header s disks file part h shape long safe is = same_header s shape file long safe.counted (safe.fixed 0 (inl refl)) part h is
 
--- who refers, as a reader says it
-module _ (s : Shape) (file : List ℕ) (is : IsHeaded s file) (rows : (i : ℕ) → i < s.tables → IsPlain1 (bits_of file) (u64_at file (s.l1 + 8 * i))) (slots : (i q j : ℕ) → IsTable s file i q → j < per s → IsPlain2 (bits_of file) (u64_at file (place s q + 8 * j))) (none : (k : ℕ) → s.owner k ≡ None) where
-  back_of : (a : Who) (k : ℕ) → Refers s file a k → (b : owners.Who) × owners.Refers file b k × (embed b ≡ a)
-  back_of Head k x = (owners.Head, to_disk s file is rows slots owners.Head k x, refl)
-  back_of Counts k x = (owners.Counts, to_disk s file is rows slots owners.Counts k x, refl)
-  back_of (Block i) k x = (owners.Block i, to_disk s file is rows slots (owners.Block i) k x, refl)
-  back_of Tables k x = (owners.Tables, to_disk s file is rows slots owners.Tables k x, refl)
-  back_of (Table i) k x = (owners.Table i, to_disk s file is rows slots (owners.Table i) k x, refl)
-  back_of (Guest i j) k x = (owners.Guest i j, to_disk s file is rows slots (owners.Guest i j) k x, refl)
-  back_of (Bitmaps held) k x = absurd (let e = none k in cc)
+-- who refers, as a reader says it, where Q says it for the image and for its bitmaps
+module _ (s : Shape) (file : List ℕ) (is : IsHeaded s file)
+    (rows : (i : ℕ) → i < s.tables → IsPlain1 (bits_of file) (u64_at file (s.l1 + 8 * i)))
+    (slots : (i q j : ℕ) → IsTable s file i q → j < per s → IsPlain2 (bits_of file) (u64_at file (place s q + 8 * j)))
+    (Q : owners.Owner → ℕ → Type 0)
+    (image : (a : owners.Who) (k : ℕ) → owners.Refers file a k → Q (owners.Image a) k)
+    (bitmaps : (held : Held) (k : ℕ) → s.owner k ≡ Some held → Q (owners.Bitmaps held) k) where
+  image_of : (a : owners.Who) (k : ℕ) → Refers s file (embed a) k → (b : owners.Owner) × Q b k × (owner_as b ≡ embed a)
+  image_of a k x = (owners.Image a, image a k (to_disk s file is rows slots a k x), refl)
 
-  once_of : TablesCounted file → (a b : Who) (k : ℕ) → Refers s file a k → Refers s file b k → a ≡ b
-  once_of counted a b k x y =
-      let p = back_of a k x in
-      let q = back_of b k y in
-      sym p.2 ∙ ap embed (counted.once p.0 q.0 k p.1 q.1) ∙ q.2
-
--- ---- a file that passes an opening's rules, without bitmaps, is one that an opening finds
-
-pub found_opened : (s : Shape) (next : ℕ) → IsShape s → ((k : ℕ) → s.owner k ≡ None) → TablesPass s.base → ((a : owners.Who) (k : ℕ) → owners.Refers s.base a k → k < next) → length s.base ≤ place_of (bits_of s.base) next → IsOpened s next s.base
-found_opened s next shape none pass low end =
-    let file = s.base in
-    let is = headed s file shape refl in
-    let bits = bits_of file in
-    let block_forms = (λ (i : ℕ) (inside : i < s.blocks). parts s is.some bits is.cluster (u64_at file (s.counts + 8 * i)) (sym (ap (λ (w : ℕ). w % 2 ^ bits) (count_word s file is i)) ∙ pass.blocks i (omega (arith, inside, is.blocks)))) in
-    let rows = (λ (i : ℕ) (inside : i < s.tables). let t = pass.tables i (omega (arith, inside, is.tables)) in l1_plain bits (u64_at file (s.l1 + 8 * i)) t.0 (ap (l1_of bits) (sym (row_word s file is i)) ∙ t.1)) in
-    let slots = (λ (i q j : ℕ) (linked : IsTable s file i q) (j_in : j < per s).
-    l2_plain bits (u64_at file (place s q + 8 * j)) (pass.entries i (place s q) j (omega (arith, linked.inside, is.tables))
-    (ap (l1_of bits) (row_word s file is i) ∙ l1_some bits (u64_at file (s.l1 + 8 * i)) (place s q) (rows i linked.inside) (offset_same (u64_at file (s.l1 + 8 * i)) ∙ linked.at) (place_some s q is.some linked.some))
-    (omega (arith, j_in, words_are s is.some bits is.cluster)))) in
-    record {
-      shape = shape;
-      counted = record {
-        once = λ a b k x y. once_of s file is rows slots none pass.counted a b k x y;
-        below = λ a k x. let r = back_of s file is rows slots none a k x in omega (arith, pass.counted.below r.0 k r.1, is.reach);
-        counted = λ a k x. let r = back_of s file is rows slots none a k x in (refcount file k, pass.counted.counted r.0 k r.1, count_of s file is block_forms k (pass.counted.counted r.0 k r.1));
-      };
-      forms = record {
-        blocks = block_forms;
-        tables = λ i inside. plain_table s is.some bits is.cluster (u64_at file (s.l1 + 8 * i)) (rows i inside);
-        entries = λ i q j linked j_in. plain_guest s is.some bits is.cluster (u64_at file (place s q + 8 * j)) (slots i q j linked j_in);
-      };
-      below = λ a k x. let r = back_of s file is rows slots none a k x in low r.0 k r.1;
-      end = omega (arith, end, place_is s is.some bits is.cluster next);
-      fixed = λ k held i low high. refl;
-    }
-
--- where nothing is counted nothing is referred to
-pub free_below : (file : List ℕ) (next : ℕ) → TablesPass file → IsFreeFrom file next → (a : owners.Who) (k : ℕ) → owners.Refers file a k → k < next
-free_below file next pass free a k refers = elim (cases_lt k next) [ inl low ↦ low | inr from ↦ absurd (omega (arith, free.uncounted k from, pass.counted.counted a k refers)) ]
-
--- ---- a file without bitmaps that rests, all counts of which are settled, is tight
-
-pub settled_tight : (s : Shape) (list : List (List ℕ)) (taken : ℕ → Bool) (file : List ℕ) → IsShape s → ((k : ℕ) → s.owner k ≡ None) → 104 ≤ length s.base → directory_in file ≡ None
-    → IsSafe s list file → AreExactly s taken file → AreSettled s taken file → owners.Tight file
-settled_tight s list taken file shape no_bitmaps long bare safe exactly settled = record {
-  counted = counted_bare file bare (safe_passes s list file shape long safe).counted;
-  ones = ones;
-  others = λ k none. elim (cases_lt 0 (refcount file k)) [
-    | inr not ↦ omega (arith, not)
-    | inl more ↦ by_taken k (λ a. none (owners.Image a)) (taken k) refl (settled k (refcount file k) (count_of s file is safe.forms.blocks k more))
-  ];
-}
-  where
-    is : IsHeaded s file
-    is = headed s file shape (same_fields s shape file long safe.counted (safe.fixed 0 (inl refl)))
-
-    ones : (a : owners.Owner) (k : ℕ) → owners.Owns file a k → refcount file k ≡ 1
-    ones (owners.Image a) k refers =
-        let mine = to_mine s file is safe.forms a k refers in
-        let c = safe.counted.counted (embed a) k mine in
-        count_found s file is k c.0 c.2 ∙ settled k c.0 c.2 ∙ ap (λ (b : Bool). if b then 1 else 0) (exactly.named (embed a) k mine)
-    ones (owners.Bitmaps held) k holds = absurd ((stores_nothing file bare).held held k holds)
-
-    by_taken : (k : ℕ) → ((a : owners.Who) → owners.Refers file a k → ⊥) → (b : Bool) → taken k ≡ b → refcount file k ≡ (if taken k then 1 else 0) → refcount file k ≡ 0
-    by_taken k none false same count = count ∙ ap (λ (t : Bool). if t then 1 else 0) same
-    by_taken k none true same count =
-        let who = exactly.exact k same in
-        let back = back_of s file is (λ i inside. table_plain s is.some (bits_of file) is.cluster (u64_at file (s.l1 + 8 * i)) (safe.forms.tables i inside))
-        (λ i q j linked j_in. guest_plain s is.some (bits_of file) is.cluster (u64_at file (place s q + 8 * j)) (safe.forms.entries i q j linked j_in)) no_bitmaps who.0 k who.1 in
-        absurd (none back.0 back.1)
+  pub back_of : (a : Who) (k : ℕ) → Refers s file a k → (b : owners.Owner) × Q b k × (owner_as b ≡ a)
+  back_of Head k x = image_of owners.Head k x
+  back_of Counts k x = image_of owners.Counts k x
+  back_of (Block i) k x = image_of (owners.Block i) k x
+  back_of Tables k x = image_of owners.Tables k x
+  back_of (Table i) k x = image_of (owners.Table i) k x
+  back_of (Guest i j) k x = image_of (owners.Guest i j) k x
+  back_of (Bitmaps held) k x = (owners.Bitmaps held, bitmaps held k x, refl)

@@ -8,7 +8,7 @@ use Rattle.image_steps.proofs.Naming.{quiet_entry, other_word, entry_some, table
 use Rattle.disk_model.specs.World.{World, IsSound, Writes, HasWritten, EachSince}
 use Rattle.disk_model.proofs.Laws.{lead_from, one_sector_write, number-overlay_same}
 use Rattle.image_model.specs.Clusters.{Shape, size, per, place, offset, Table, Guest, IsTable, Use, Ready, Of, IsBlank, IsShape, IsZero, host, guest, IsGood, IsSafe, IsLink, IsTaking, Standing}
-use Rattle.image_model.specs.Calls.{IsSlot, IsIn, IsOnly, IsTablePut, IsData, Keeps, Shows, LeavesGuest, LeavesOthers, IsNewTable}
+use Rattle.image_model.specs.Calls.{IsSlot, IsIn, IsOnly, IsTablePut, IsData, Keeps, SameBlocks, SameTablesBut, Shows, LeavesGuest, LeavesOthers, IsNewTable}
 use Rattle.image_steps.proofs.Places.{Spares, within, torn_spares, spares_more, sector_at}
 use Rattle.image_steps.proofs.Steps.{taken_of}
 use Rattle.image_steps.proofs.Good.{take, data_within, word_is, row_set, entry_inside}
@@ -16,7 +16,7 @@ use Rattle.image_steps.proofs.Calls.{in_place_leads, hole_leads, row_leads, row_
 use Rattle.image_steps.proofs.Standing.{put, taking, places, is_ready, taken_places, taken_linked, still_linked, leads_stand}
 use Rattle.image_steps.proofs.Kept as kept
 use Rattle.image_steps.proofs.Kept.{guest_some}
-use Rattle.image_steps.proofs.Links.{keeps_by, keeps_row}
+use Rattle.image_steps.proofs.Links.{SameWords, words_by, words_table, keeps_words, keeps_row}
 use Rattle.disk_model.proofs.Laws.{byte-overlay_in, byte-overlay_outside}
 use Rattle.image_steps.proofs.Steps as steps
 
@@ -37,11 +37,13 @@ module _ {s : Shape} {disks : List (List ℕ)} {first last q i j spot f : ℕ} {
   cleared_others x y o x_in y_in o_in other =
       (kept.entry_shows s shape.some st.role (a.seen f) (b.seen f) st.seen.lies st.seen.forms q i j hole_table slot.slot hole_spares x y o x_in y_in o_in other).1
 
-  pub cleared_keeps_links : Keeps s (a.seen f) (b.seen f)
-  cleared_keeps_links = record {
-    blocks = steps.entry_block_on s shape.some st.role (a.seen f) (b.seen f) st.seen.lies q i j hole_table slot.slot hole_spares;
-    tables = steps.entry_on s shape.some st.role (a.seen f) (b.seen f) st.seen.lies q i j hole_table slot.slot hole_spares;
-  }
+  pub cleared_words : SameWords s (a.seen f) (b.seen f)
+  cleared_words =
+      words_by s shape.some st.role (a.seen f) (b.seen f) st.seen.lies (Of (Table i))
+      (steps.entry_elsewhere s shape.some st.role (a.seen f) (b.seen f) st.seen.lies q i j hole_table slot.slot hole_spares) (λ e. cc) (λ e. cc)
+
+  cleared_keeps_links : Keeps s (a.seen f) (b.seen f)
+  cleared_keeps_links = keeps_words s (a.seen f) (b.seen f) cleared_words
 
   pub cleared : EachSince b a.now f (IsSafe s (b.seen f ∷ disks)) × Standing s (b.seen f ∷ disks) first last f b
   cleared = leads_stand st st.role (places st) call.run told (still_linked st (b.seen f) cleared_keeps_links.blocks) (hole_leads s shape disks st.role q i j hole_table slot.index slot.slot word eight sound sound_b hole_at says linked)
@@ -57,7 +59,7 @@ module _ {s : Shape} {disks : List (List ℕ)} {first last q i j spot f : ℕ} {
 
   cleared_word : b.seen f ≡ overlay (a.seen f) (place s q + 8 * j) word → word_of s (b.seen f) i j ≡ 0
   cleared_word new =
-      entry_some s (b.seen f) i j q shape.some (steps.entry_on s shape.some st.role (a.seen f) (b.seen f) st.seen.lies q i j hole_table slot.slot hole_spares i q linked)
+      entry_some s (b.seen f) i j q shape.some (cleared_keeps_links.tables i q linked)
       ∙ ap (λ (c : List ℕ). u64_at c (place s q + 8 * j)) new ∙ word_is s shape disks st.role q i j hole_table slot.index slot.slot word eight (a.seen f) ∙ says
 
   pub cleared_whether : ((word_of s (b.seen f) i j ≡ word_of s (a.seen f) i j) × ((o : ℕ) → o < s.sectors → ShowsAs s i j o (b.seen f) (a.seen f))) ⊎ (word_of s (b.seen f) i j ≡ 0)
@@ -69,7 +71,7 @@ module _ {s : Shape} {disks : List (List ℕ)} {first last q i j spot f : ℕ} {
 
   pub cleared_done : HasWritten f spot word a b → IsTable s (b.seen f) i q × (word_of s (b.seen f) i j ≡ 0)
   cleared_done done = (
-    steps.entry_on s shape.some st.role (a.seen f) (b.seen f) st.seen.lies q i j hole_table slot.slot hole_spares i q linked,
+    cleared_keeps_links.tables i q linked,
     cleared_word (done.seen told ∙ ap (λ (p : ℕ). overlay (a.seen f) p word) slot.at),
   )
 
@@ -100,9 +102,13 @@ module _ {s : Shape} {disks : List (List ℕ)} {first last k i j at f : ℕ} {by
   pub over_host : host s (b.seen f) i j ≡ place s k
   over_host = kept.guest_host s shape.some st.role (a.seen f) (b.seen f) st.seen.lies st.seen.forms k i j data_role over_spares i j i_in j_in ∙ is.at
 
-  pub over_keeps_links : Keeps s (a.seen f) (b.seen f)
-  over_keeps_links =
-      keeps_by s shape.some st.role (a.seen f) (b.seen f) st.seen.lies (Of (Guest i j)) (within s st.role (Of (Guest i j)) k (a.seen f) (b.seen f) data_role over_spares) (λ e. cc) (λ e. cc)
+  pub over_words : SameWords s (a.seen f) (b.seen f)
+  over_words =
+      words_by s shape.some st.role (a.seen f) (b.seen f) st.seen.lies (Of (Guest i j))
+      (within s st.role (Of (Guest i j)) k (a.seen f) (b.seen f) data_role over_spares) (λ e. cc) (λ e. cc)
+
+  over_keeps_links : Keeps s (a.seen f) (b.seen f)
+  over_keeps_links = keeps_words s (a.seen f) (b.seen f) over_words
 
   pub overwritten : EachSince b a.now f (IsSafe s (b.seen f ∷ disks)) × Standing s (b.seen f ∷ disks) first last f b
   overwritten = leads_stand st st.role (places st) call.run told (still_linked st (b.seen f) over_keeps_links.blocks) (in_place_leads s shape disks k i j at bytes inside.low inside.high st.role data_role sound sound_b call i_in j_in is.at)
@@ -169,8 +175,11 @@ module _ {s : Shape} {disks : List (List ℕ)} {first last t i spot entry f : �
   table_row_spares : Spares (s.l1 + 8 * i) 8 (a.seen f) (b.seen f)
   table_row_spares = spares_more (s.l1 + 8 * i) (length word) (s.l1 + 8 * i) 8 (a.seen f) (b.seen f) (omega arith) (omega (arith, eight)) (torn_spares (s.l1 + 8 * i) word (a.seen f) (b.seen f) (row_at.torn told))
 
-  pub table_keeps_links : Keeps s (a.seen f) (b.seen f)
-  table_keeps_links = keeps_row s is.shape.some st.role (a.seen f) (b.seen f) i is.index st.seen.lies (is.none told) table_row_spares
+  pub table_words : SameTablesBut s i (a.seen f) (b.seen f) × SameBlocks s (a.seen f) (b.seen f)
+  table_words = words_table s is.shape.some st.role (a.seen f) (b.seen f) st.seen.lies i is.index table_row_spares
+
+  table_keeps_links : Keeps s (a.seen f) (b.seen f)
+  table_keeps_links = keeps_row s is.shape.some (a.seen f) (b.seen f) i (is.none told) table_words
 
   pub table_added : EachSince b a.now f (IsSafe s disks) × Standing s disks (t + 1) last f b
   table_added = leads_stand st row_role (taken_places s st.role row_role first last t (Table i) (λ n e. cc) row_takes is.among.from is.among.to (places st)) call.run told
@@ -199,11 +208,19 @@ module _ {s : Shape} {disks : List (List ℕ)} {first last t i spot entry f : �
         row_either;
   }
 
+  table_new : b.seen f ≡ overlay (a.seen f) (s.l1 + 8 * i) word → IsNewTable s t i entry (b.seen f)
+  table_new new = record {
+    linked = record { inside = is.index; some = is.some; at = row_done new };
+    names = ap (λ (c : List ℕ). u64_at c (s.l1 + 8 * i)) new ∙ number-overlay_same w64 (a.seen f) (s.l1 + 8 * i) word eight ∙ says;
+    none = table_entry s is.shape.some row_role (a.seen f) (b.seen f) row_good.0.lies row_good.0.forms t i is.index
+        is.some row_takes.taken row_good.1 table_row_spares (row_done new);
+  }
+
+  pub table_either : (u64_at (b.seen f) spot ≡ u64_at (a.seen f) spot) ⊎ IsNewTable s t i entry (b.seen f)
+  table_either = ⊎_elim
+      (λ (same : b.seen f ≡ a.seen f). inl (ap (λ (c : List ℕ). u64_at c spot) same))
+      (λ (new : b.seen f ≡ overlay (a.seen f) (s.l1 + 8 * i) word). inr (table_new new))
+      row_either
+
   pub table_done : HasWritten f spot word a b → IsNewTable s t i entry (b.seen f)
-  table_done done =
-      let new : b.seen f ≡ overlay (a.seen f) (s.l1 + 8 * i) word = done.seen told ∙ ap (λ (p : ℕ). overlay (a.seen f) p word) is.at in
-      record {
-        linked = record { inside = is.index; some = is.some; at = row_done new };
-        names = ap (λ (c : List ℕ). u64_at c (s.l1 + 8 * i)) new ∙ number-overlay_same w64 (a.seen f) (s.l1 + 8 * i) word eight ∙ says;
-        none = table_entry s is.shape.some row_role (a.seen f) (b.seen f) row_good.0.lies row_good.0.forms t i is.index is.some row_takes.taken row_good.1 table_row_spares (row_done new);
-      }
+  table_done done = table_new (done.seen told ∙ ap (λ (p : ℕ). overlay (a.seen f) p word) is.at)

@@ -7,7 +7,8 @@ use Rattle.std.specs.Int.{from_be_bytes, w64}
 use Rattle.disk_model.specs.Files.{byte, u64_at, overlay, AgreesAt, IsTorn}
 use Rattle.disk_model.proofs.Laws.{IsMixed, whole_torn, number-overlay_same, byte_past}
 use Rattle.qc_layout.specs.Disks.{bits_of}
-use Rattle.image_model.specs.Clusters.{Shape, size, per, place, offset, if_zero, stored, Who, Head, Counts, Block, Tables, Table, Guest, IsBlock, IsTable, Refers, IsCounted, AllCounted, Use, Ready, Of, IsTaken, IsBlank, IsFixed, SameIn, IsZero, IsUsed, IsShape, Lies, IsTableWord, IsGuestWord, host, IsKept, IsGood, IsSafe, IsLink, IsTaking, Bitmaps, Held, IsOwnCount}
+use Rattle.qc_layout.specs.Owners.{Held}
+use Rattle.image_model.specs.Clusters.{Shape, size, per, place, offset, if_zero, stored, Who, Head, Counts, Block, Tables, Table, Guest, IsBlock, IsTable, Refers, IsCounted, AllCounted, Use, Ready, Of, IsTaken, IsBlank, IsFixed, SameIn, IsZero, IsUsed, IsShape, Lies, IsTableWord, IsGuestWord, host, IsKept, IsGood, IsSafe, IsLink, IsTaking, Bitmaps, IsOwnCount}
 use Rattle.image_steps.proofs.Places.{Spares, torn_spares, spares_more, within, place_some, offset_none}
 use Rattle.image_steps.proofs.Steps.{taken_of, guest_none_word}
 use Rattle.image_steps.proofs.Kept.{stored_none, host_none, shown}

@@ -3,7 +3,7 @@ use Rattle.std.proofs.Common.{◌≡◌, ◌≢◌, inl, inr, ℕ, ◌+◌, ◌*
 use Rattle.std.proofs.lemmas.Bool.{cases_eq, cases_lt}
 use Rattle.disk_model.specs.Files.{u64_at}
 use Rattle.image_model.specs.Clusters.{Shape, per, offset, stored, Counts, Tables, Use, Of, Lies}
-use Rattle.image_model.specs.Calls.{IsTakeable, Keeps, IsNewTable}
+use Rattle.image_model.specs.Calls.{IsTakeable, Keeps, SameTables, SameBlocks, SameTablesBut, SameBlocksBut, IsNewTable}
 use Rattle.image_model.specs.Runs.{AreOpen}
 use Rattle.image_steps.proofs.Places.{Spares, Elsewhere, in_row, word_spared, place_some}
 use Rattle.image_steps.proofs.Kept.{stored_none}
@@ -16,18 +16,57 @@ keeps_on s a b c first second = record { blocks = λ i q is. second.blocks i q (
 pub keeps_takeable : (s : Shape) (a b : List ℕ) (k : ℕ) → Keeps s a b → IsTakeable s k a → IsTakeable s k b
 keeps_takeable s a b k keeps t = record { index = t.index; counts = t.counts; block = t.block; linked = keeps.blocks t.index t.block t.linked; differ = t.differ }
 
--- a change in clusters of another role than tables'
-module _ (s : Shape) (some : 0 < s.sectors) (role : ℕ → Use) (old new : List ℕ) (lies : Lies s role old) (u : Use) (elsewhere : Elsewhere s role u old new) where
-  pub keeps_by : u ≢ Of Counts → u ≢ Of Tables → Keeps s old new
-  keeps_by no_counts no_tables = record { blocks = frame.block_on s some role old new lies u elsewhere no_counts; tables = frame.table_on s some role old new lies u elsewhere no_tables }
+-- the words of the first level and of the refcount table are as they were
+abbrev pub SameWords : Shape → List ℕ → List ℕ → Type 0
+SameWords s old new = SameTables s old new × SameBlocks s old new
 
--- a word of the first level, where there was none
-pub keeps_row : (s : Shape) (some : 0 < s.sectors) (role : ℕ → Use) (old new : List ℕ) (i0 : ℕ) → i0 < s.tables → Lies s role old → offset (u64_at old (s.l1 + 8 * i0)) ≡ 0 → Spares (s.l1 + 8 * i0) 8 old new → Keeps s old new
-keeps_row s some role old new i0 inside lies none spares = record {
-  blocks = frame.block_on s some role old new lies (Of Tables) (in_row s role Tables s.l1 s.tables i0 old new inside (λ k m. lies.refs Tables k m) spares) (λ e. cc);
+pub words_on : (s : Shape) (a b c : List ℕ) → SameWords s a b → SameWords s b c → SameWords s a c
+words_on s a b c first second = (λ i inside. second.0 i inside ∙ first.0 i inside, λ i inside. second.1 i inside ∙ first.1 i inside)
+
+pub keeps_words : (s : Shape) (old new : List ℕ) → SameWords s old new → Keeps s old new
+keeps_words s old new same = record {
+  blocks = λ i q is. record { inside = is.inside; some = is.some; at = same.1 i is.inside ∙ is.at };
+  tables = λ i q is. record { inside = is.inside; some = is.some; at = ap offset (same.0 i is.inside) ∙ is.at };
+}
+
+-- one word of a table changed
+other_word : (from i : ℕ) (old new : List ℕ) → Spares (from + 8 * i) 8 old new → (m : ℕ) → m ≢ i → u64_at new (from + 8 * m) ≡ u64_at old (from + 8 * m)
+other_word from i old new spares m differ =
+    word_spared (from + 8 * i) 8 old new (from + 8 * m) spares
+    (elim (cases_lt m i) [ inl below ↦ inl (omega arith) | inr above ↦ inr (omega (arith, above, differ)) ])
+
+module _ (s : Shape) (some : 0 < s.sectors) (role : ℕ → Use) (old new : List ℕ) (lies : Lies s role old) where
+  -- a change in clusters of another role than tables'
+  pub words_by : (u : Use) → Elsewhere s role u old new → u ≢ Of Counts → u ≢ Of Tables → SameWords s old new
+  words_by u elsewhere no_counts no_tables = (
+    frame.l1_word s some role old new lies u elsewhere no_tables,
+    frame.block_word s some role old new lies u elsewhere no_counts,
+  )
+
+  -- a change of one word of the first level
+  pub words_table : (i : ℕ) → i < s.tables → Spares (s.l1 + 8 * i) 8 old new → SameTablesBut s i old new × SameBlocks s old new
+  words_table i inside spares =
+      let elsewhere = in_row s role Tables s.l1 s.tables i old new inside (λ k m. lies.refs Tables k m) spares in (
+        λ m m_in differ. other_word s.l1 i old new spares m differ,
+        frame.block_word s some role old new lies (Of Tables) elsewhere (λ e. cc),
+      )
+
+  -- of the refcount table
+  pub words_block : (i : ℕ) → i < s.blocks → Spares (s.counts + 8 * i) 8 old new → SameTables s old new × SameBlocksBut s i old new
+  words_block i inside spares =
+      let elsewhere = in_row s role Counts s.counts s.blocks i old new inside (λ k m. lies.refs Counts k m) spares in (
+        frame.l1_word s some role old new lies (Of Counts) elsewhere (λ e. cc),
+        λ m m_in differ. other_word s.counts i old new spares m differ,
+      )
+
+-- that word linked none
+pub keeps_row : (s : Shape) (some : 0 < s.sectors) (old new : List ℕ) (i0 : ℕ) → offset (u64_at old (s.l1 + 8 * i0)) ≡ 0
+    → SameTablesBut s i0 old new × SameBlocks s old new → Keeps s old new
+keeps_row s some old new i0 none same = record {
+  blocks = λ i q is. record { inside = is.inside; some = is.some; at = same.1 i is.inside ∙ is.at };
   tables = λ i q is. elim (cases_eq i i0) [
-    | inl same ↦ absurd (omega (arith, is.at, none, ap (λ (x : ℕ). offset (u64_at old (s.l1 + 8 * x))) same, place_some s q some is.some))
-    | inr differ ↦ record { inside = is.inside; some = is.some; at = ap offset (word_spared (s.l1 + 8 * i0) 8 old new (s.l1 + 8 * i) spares (elim (cases_lt i i0) [ inl below ↦ inl (omega arith) | inr above ↦ inr (omega (arith, above, differ)) ])) ∙ is.at }
+    | inl here ↦ absurd (omega (arith, is.at, none, ap (λ (x : ℕ). offset (u64_at old (s.l1 + 8 * x))) here, place_some s q some is.some))
+    | inr differ ↦ record { inside = is.inside; some = is.some; at = ap offset (same.0 i is.inside differ) ∙ is.at }
   ];
 }
 

@@ -4,7 +4,8 @@ use Rattle.std.proofs.lemmas.Bool.{cases_eq, cases_lt}
 use Rattle.std.specs.Int.{w16, w64}
 use Rattle.disk_model.specs.Files.{byte, u16_at, u64_at, overlay, IsTorn}
 use Rattle.disk_model.proofs.Laws.{number_same, byte_past, byte-overlay_in, byte-overlay_outside, length-overlay, torn_elsewhere}
-use Rattle.image_model.specs.Clusters.{Shape, size, per, place, offset, stored, Who, Head, Counts, Block, Tables, Table, Guest, Bitmaps, Held, Meets, IsBlock, IsTable, IsGuest, Refers, IsCounted, AllCounted, IsOffset, IsTableWord, IsGuestWord, Forms, Use, Free, Fresh, Ready, Of, IsTaken, IsBlank, IsFixed, IsFixedFor, SameIn, Lies, host, pick, ShowsAs, IsGood, IsSafe, IsHeld, IsLonger}
+use Rattle.qc_layout.specs.Owners.{Held}
+use Rattle.image_model.specs.Clusters.{Shape, size, per, place, offset, stored, Who, Head, Counts, Block, Tables, Table, Guest, Bitmaps, Meets, IsBlock, IsTable, IsGuest, Refers, IsCounted, AllCounted, IsOffset, IsTableWord, IsGuestWord, Forms, Use, Free, Fresh, Ready, Of, IsTaken, IsBlank, IsFixed, IsFixedFor, SameIn, Lies, host, pick, ShowsAs, IsGood, IsSafe, IsHeld, IsLonger}
 use Rattle.image_model.specs.Calls.{IsOpened, IsReach}
 use Rattle.image_steps.proofs.Places.{place_same, place_more, place_next, place_some}
 use Rattle.image_steps.proofs.Good.{torn_byte}

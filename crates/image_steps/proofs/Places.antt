@@ -1,11 +1,11 @@
 -- Where clusters lie, and a file that changed in a range alone.
-use Rattle.std.proofs.Common.{◌≡◌, ◌≢◌, ◌⊎◌, inl, inr, ⊎_elim, ℕ, ◌+◌, ◌*◌, ◌/◌, ◌%◌, ◌<◌, ◌≤◌, List, length, replicate, refl, sym, ◌∙◌, ap, arith}
+use Rattle.std.proofs.Common.{◌≡◌, ◌≢◌, ◌⊎◌, inl, inr, ⊎_elim, ℕ, ◌+◌, ◌*◌, ◌/◌, ◌%◌, ◌<◌, ◌≤◌, max, List, length, replicate, refl, sym, ◌∙◌, ap, arith}
 use Rattle.std.proofs.lemmas.Bool.{cases_eq, cases_lt}
 use Rattle.std.proofs.lemmas.List.{get_or-replicate}
 use Rattle.std.proofs.Math.Nat.{mul-le-mul_left, div-add-mod, mod-lt}
 use Rattle.std.specs.Int.{w64, w16}
 use Rattle.disk_model.specs.Files.{byte, reading, u16_at, u64_at, IsTorn}
-use Rattle.disk_model.proofs.Laws.{torn_elsewhere, number_same, number_read, length-reading, byte-reading, same_file}
+use Rattle.disk_model.proofs.Laws.{torn_elsewhere, length-overlay, number_same, number_read, length-reading, byte-reading, same_file}
 use Rattle.image_model.specs.Clusters.{Shape, size, place, offset, Meets, Who, Use, Of, SameIn}
 
 pub place_step : (s : Shape) (k q : ℕ) → k < q → place s k + size s ≤ place s q
@@ -82,6 +82,10 @@ pub record Spares (from n : ℕ) (old new : List ℕ) : Type 0 where
 
 pub torn_spares : (at : ℕ) (bytes old new : List ℕ) → IsTorn at bytes old new → Spares at (length bytes) old new
 torn_spares at bytes old new torn = record { longer = torn.no_shorter; bytes = λ i out. torn_elsewhere at bytes old new i torn out }
+
+-- the file ends no later than it did, or with the write
+pub torn_ends : (at : ℕ) (bytes old new : List ℕ) → 0 < length bytes → IsTorn at bytes old new → length new ≤ max (length old) (at + length bytes)
+torn_ends at bytes old new some torn = omega (arith, torn.no_longer, length-overlay old at bytes some)
 
 pub spares_more : (from n low m : ℕ) (old new : List ℕ) → low ≤ from → from + n ≤ low + m → Spares from n old new → Spares low m old new
 spares_more from n low m old new less more spares = record {

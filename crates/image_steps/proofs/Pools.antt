@@ -4,18 +4,19 @@ use Rattle.std.proofs.lemmas.Bool.{cases_eq, cases_lt}
 use Rattle.std.specs.Int.{from_be_bytes, w16, w64}
 use Rattle.disk_model.specs.Files.{u16_at, u64_at, overlay, IsTorn}
 use Rattle.disk_model.specs.World.{World, Runs, writes_of, IsSound, Writes, HasWritten, Syncs, HasSynced, EachSince, Leads, Holds}
-use Rattle.disk_model.proofs.Laws.{write_leads, sector_leads, sync_leads, synced_exact, lead_on, lead_from, run_on, since_on, number-overlay_same, number-overlay_part, one_sector_write}
-use Rattle.image_model.specs.Clusters.{Shape, size, each, place, Who, Block, IsBlock, Use, Free, Fresh, Ready, Of, IsTaken, IsShape, IsGood, IsSafe, IsOwn, Standing, IsStanding, Moves, IsOwnCount}
+use Rattle.disk_model.proofs.Laws.{write_leads, sector_leads, sync_leads, synced_exact, lead_on, lead_from, run_on, since_on, torn_length, number-overlay_same, number-overlay_part, one_sector_write}
+use Rattle.image_model.specs.Clusters.{Shape, size, each, place, Who, Block, IsBlock, IsCounted, Use, Free, Fresh, Ready, Of, IsTaken, IsShape, IsGood, IsSafe, IsOwn, Standing, IsStanding, Moves, IsOwnCount}
 use Rattle.image_model.specs.Calls.{IsToppingUp, IsAddingBlock, IsSettling, AreExactly, Keeps, Resting, Rests, last_after}
-use Rattle.image_steps.proofs.Places.{Spares, Elsewhere, spares_more, place_next, torn_spares, within, place_same, place_some, sector_at}
+use Rattle.image_steps.proofs.Places.{Spares, Elsewhere, spares_more, torn_ends, place_next, torn_spares, within, place_same, place_some, sector_at}
 use Rattle.image_steps.proofs.Frame as frame
-use Rattle.image_steps.proofs.Links.{keeps_on, keeps_by}
+use Rattle.image_steps.proofs.Links.{SameWords, keeps_on, words_on, keeps_words, words_by, words_block}
+use Rattle.image_steps.proofs.Steps.{spared_counts}
 use Rattle.image_steps.proofs.Good.{safe, recast, is_shown}
-use Rattle.image_model.specs.Calls.{SameGuest, LeavesGuest, HasCounts, LeavesCounts}
+use Rattle.image_model.specs.Calls.{SameGuest, SameTables, SameBlocksBut, LeavesGuest, HasCounts, LeavesCounts, IsBareBlock, CountsNoOther, EndsBy}
 use Rattle.image_steps.proofs.Naming.{quiet_alike, alike_on, alike_self}
 use Rattle.image_steps.proofs.Calls.{count_inside}
 use Rattle.image_steps.proofs.Standing.{put, put_here, put_other, Places, AreLinked, places, same_index, same_own, still_linked, holds_of, stand_on, leads_stand}
-use Rattle.image_steps.proofs.Blocks.{topped_counts, topped_growth, topped_up, end_low, end_high, block_row_keeps, block_row_alike, block_growth, block_count, IsPrepared, prepared, block_linked, own_change, counted_out, settled_good, keep, kept_taken, kept_or, kept_fresh, kept_block, rested}
+use Rattle.image_steps.proofs.Blocks.{topped_counts, topped_growth, topped_up, end_low, end_high, block_row_keeps, block_row_alike, block_growth, block_count, IsPrepared, prepared, block_linked, block_row_counts, block_row_half, growth_bare, count_bare, block_inside, counted_apart, own_change, counted_out, settled_good, keep, kept_taken, kept_or, kept_fresh, kept_block, rested}
 
 -- a write that keeps what is good
 pub good_leads : (s : Shape) (role : ℕ → Use) (disks : List (List ℕ)) {f at : ℕ} {bytes : List ℕ} {a b : World} → IsSound a → IsSound b → Writes f at bytes a b
@@ -56,19 +57,26 @@ module _ {s : Shape} {disks : List (List ℕ)} {first last q i low n spot finish
   good_here : IsGood s st.role disks (b.seen f)
   good_here = (growth.after (holds_of st)).seen told_here
 
-  top_growth_keeps : Keeps s (a.seen f) (b.seen f)
-  top_growth_keeps =
-      keeps_by s is.shape.some st.role (a.seen f) (b.seen f) st.seen.lies Fresh
-      (within s st.role Fresh (last + n - 1) (a.seen f) (b.seen f) (fresh_here (last + n - 1) (omega (arith, is.call.some)) (omega (arith, is.call.some)))
+  growth_apart : Elsewhere s st.role Fresh (a.seen f) (b.seen f)
+  growth_apart =
+      within s st.role Fresh (last + n - 1) (a.seen f) (b.seen f) (fresh_here (last + n - 1) (omega (arith, is.call.some)) (omega (arith, is.call.some)))
       (spares_more finish 1 (place s (last + n - 1)) (size s) (a.seen f) (b.seen f) (end_low is.call is.shape.some st.role block_role disks counts is.long fresh_here) (end_high is.call is.shape.some st.role block_role disks counts is.long fresh_here)
-      (torn_spares finish (0 ∷ []) (a.seen f) (b.seen f) (grows.torn told)))) (λ e. cc) (λ e. cc)
+      (torn_spares finish (0 ∷ []) (a.seen f) (b.seen f) (grows.torn told)))
+
+  pub top_growth_words : SameWords s (a.seen f) (b.seen f)
+  top_growth_words = words_by s is.shape.some st.role (a.seen f) (b.seen f) st.seen.lies Fresh growth_apart (λ e. cc) (λ e. cc)
+
+  top_growth_keeps : Keeps s (a.seen f) (b.seen f)
+  top_growth_keeps = keeps_words s (a.seen f) (b.seen f) top_growth_words
 
   top_growth_alike : SameGuest s (a.seen f) (b.seen f)
-  top_growth_alike =
-      quiet_alike s is.shape.some st.role (a.seen f) (b.seen f) st.seen.lies st.seen.forms Fresh
-      (within s st.role Fresh (last + n - 1) (a.seen f) (b.seen f) (fresh_here (last + n - 1) (omega (arith, is.call.some)) (omega (arith, is.call.some)))
-      (spares_more finish 1 (place s (last + n - 1)) (size s) (a.seen f) (b.seen f) (end_low is.call is.shape.some st.role block_role disks counts is.long fresh_here) (end_high is.call is.shape.some st.role block_role disks counts is.long fresh_here)
-      (torn_spares finish (0 ∷ []) (a.seen f) (b.seen f) (grows.torn told)))) (λ e. cc) (λ x e. cc) (λ x y e. cc)
+  top_growth_alike = quiet_alike s is.shape.some st.role (a.seen f) (b.seen f) st.seen.lies st.seen.forms Fresh growth_apart (λ e. cc) (λ x e. cc) (λ x y e. cc)
+
+  pub top_growth_others : LeavesCounts s last n (a.seen f) (b.seen f)
+  top_growth_others k many c out = spared_counts s is.shape.some st.role (a.seen f) (b.seen f) st.seen.lies Fresh growth_apart (λ e. cc) (λ x e. cc) k many c
+
+  pub top_growth_ends : EndsBy finish (a.seen f) (b.seen f)
+  top_growth_ends = torn_ends finish (0 ∷ []) (a.seen f) (b.seen f) (omega arith) (grows.torn told)
 
   pub top_growth_leaves : LeavesGuest s (a.seen f) (b.seen f)
   top_growth_leaves = record { keeps = top_growth_keeps; alike = top_growth_alike }
@@ -77,19 +85,46 @@ module _ {s : Shape} {disks : List (List ℕ)} {first last q i low n spot finish
   top_growth = leads_stand st st.role (places st) grows.run told (still_linked st (b.seen f) top_growth_keeps.blocks) growth
 
   module _ {d : World} (sound_d : IsSound d) (counted : Writes f spot counts b d) where
+    counts_torn : IsTorn spot counts (b.seen f) (d.seen f)
+    counts_torn = counted.torn told_here
+
+    counts_narrow : Spares (place s q + 2 * low) (2 * n) (b.seen f) (d.seen f)
+    counts_narrow = spares_more spot (length counts) (place s q + 2 * low) (2 * n) (b.seen f) (d.seen f) (omega (arith, is.call.spot_is)) (omega (arith, is.call.spot_is, is.long)) (torn_spares spot counts (b.seen f) (d.seen f) counts_torn)
+
+    counts_around : Spares (place s q) (size s) (b.seen f) (d.seen f)
+    counts_around = spares_more (place s q + 2 * low) (2 * n) (place s q) (size s) (b.seen f) (d.seen f) (omega arith) (omega (arith, is.call.within)) counts_narrow
+
+    counts_apart : Elsewhere s st.role (Of (Block i)) (b.seen f) (d.seen f)
+    counts_apart = within s st.role (Of (Block i)) q (b.seen f) (d.seen f) block_role counts_around
+
+    pub top_counts_words : SameWords s (a.seen f) (d.seen f)
+    top_counts_words =
+        words_on s (a.seen f) (b.seen f) (d.seen f) top_growth_words
+        (words_by s is.shape.some st.role (b.seen f) (d.seen f) good_here.lies (Of (Block i)) counts_apart (λ e. cc) (λ e. cc))
+
     top_counts_keep : Keeps s (a.seen f) (d.seen f)
-    top_counts_keep =
-        keeps_on s (a.seen f) (b.seen f) (d.seen f) top_growth_keeps
-        (keeps_by s is.shape.some st.role (b.seen f) (d.seen f) good_here.lies (Of (Block i))
-        (within s st.role (Of (Block i)) q (b.seen f) (d.seen f) block_role
-        (spares_more spot (length counts) (place s q) (size s) (b.seen f) (d.seen f) (omega (arith, is.call.spot_is)) (omega (arith, is.call.spot_is, is.long, is.call.within)) (torn_spares spot counts (b.seen f) (d.seen f) (counted.torn told_here)))) (λ e. cc) (λ e. cc))
+    top_counts_keep = keeps_words s (a.seen f) (d.seen f) top_counts_words
 
     top_counts_alike : SameGuest s (a.seen f) (d.seen f)
     top_counts_alike =
         alike_on s (a.seen f) (b.seen f) (d.seen f) top_growth_alike
-        (quiet_alike s is.shape.some st.role (b.seen f) (d.seen f) good_here.lies good_here.forms (Of (Block i))
-        (within s st.role (Of (Block i)) q (b.seen f) (d.seen f) block_role
-        (spares_more spot (length counts) (place s q) (size s) (b.seen f) (d.seen f) (omega (arith, is.call.spot_is)) (omega (arith, is.call.spot_is, is.long, is.call.within)) (torn_spares spot counts (b.seen f) (d.seen f) (counted.torn told_here)))) (λ e. cc) (λ x e. cc) (λ x y e. cc))
+        (quiet_alike s is.shape.some st.role (b.seen f) (d.seen f) good_here.lies good_here.forms (Of (Block i)) counts_apart (λ e. cc) (λ x e. cc) (λ x y e. cc))
+
+    pub top_counts_others : LeavesCounts s last n (a.seen f) (d.seen f)
+    top_counts_others k many c out =
+        counted_out s is.shape.some st.role (b.seen f) (d.seen f) good_here.lies q i block_role counts_around low n counts_narrow k many (top_growth_others k many c out)
+        (subst (λ (l : ℕ). (k < l) ⊎ (l + n ≤ k)) is.call.from out)
+
+    -- the block lies in the file
+    pub top_counts_ends : EndsBy finish (a.seen f) (d.seen f)
+    top_counts_ends =
+        let linked : IsBlock s (b.seen f) i q = top_growth_keeps.blocks i q (is.block told) in
+        omega (
+          arith,
+          top_growth_ends,
+          torn_length spot counts (b.seen f) (d.seen f) counts_torn
+              (omega (arith, is.call.spot_is, is.call.within, is.long, block_inside s st.role q i (b.seen f) block_role linked good_here.lies)),
+        )
 
     pub top_counts_leave : LeavesGuest s (a.seen f) (d.seen f)
     top_counts_leave = record { keeps = top_counts_keep; alike = top_counts_alike }
@@ -313,9 +348,19 @@ module _ {s : Shape} {disks : List (List ℕ)} {first i last slot spot finish en
   around_at : (p : ℕ) (bytes x y : List ℕ) → place s last ≤ p → p + length bytes ≤ place s last + size s → IsTorn p bytes x y → Elsewhere s role_block_on (Of (Block i)) x y
   around_at p bytes x y low high torn = within s role_block_on (Of (Block i)) last x y here (spares_more p (length bytes) (place s last) (size s) x y low high (torn_spares p bytes x y torn))
 
-  keeps_b : Keeps s (a.seen f) (b.seen f)
-  keeps_b = keeps_by s is.shape.some role_block_on (a.seen f) (b.seen f) good_a.lies (Of (Block i))
+  pub block_words_b : SameWords s (a.seen f) (b.seen f)
+  block_words_b = words_by s is.shape.some role_block_on (a.seen f) (b.seen f) good_a.lies (Of (Block i))
       (around_at finish (end ∷ []) (a.seen f) (b.seen f) (omega (arith, is.call.finish_is, place_next s last, is.shape.some)) (omega (arith, is.call.finish_is, place_next s last)) (grows.torn told)) (λ e. cc) (λ e. cc)
+
+  -- the word that is to name the block
+  word_stays : (c : List ℕ) → SameWords s (a.seen f) c → u64_at c at ≡ u64_at (a.seen f) at
+  word_stays c same = subst (λ (p : ℕ). u64_at c p ≡ u64_at (a.seen f) p) (sym is.call.at_is) (same.1 i is.call.inside)
+
+  pub block_word_b : u64_at (b.seen f) at ≡ u64_at (a.seen f) at
+  block_word_b = word_stays (b.seen f) block_words_b
+
+  keeps_b : Keeps s (a.seen f) (b.seen f)
+  keeps_b = keeps_words s (a.seen f) (b.seen f) block_words_b
 
   pub block_leaves_b : LeavesGuest s (a.seen f) (b.seen f)
   block_leaves_b = record {
@@ -323,6 +368,20 @@ module _ {s : Shape} {disks : List (List ℕ)} {first i last slot spot finish en
     alike = quiet_alike s is.shape.some role_block_on (a.seen f) (b.seen f) good_a.lies good_a.forms (Of (Block i))
         (around_at finish (end ∷ []) (a.seen f) (b.seen f) (omega (arith, is.call.finish_is, place_next s last, is.shape.some)) (omega (arith, is.call.finish_is, place_next s last)) (grows.torn told)) (λ e. cc) (λ x e. cc) (λ x y e. cc);
   }
+
+  grows_within : Spares (place s last) (size s) (a.seen f) (b.seen f)
+  grows_within =
+      spares_more finish 1 (place s last) (size s) (a.seen f) (b.seen f) (omega (arith, is.call.finish_is, place_next s last, is.shape.some)) (omega (arith, is.call.finish_is, place_next s last))
+      (torn_spares finish (end ∷ []) (a.seen f) (b.seen f) (grows.torn told))
+
+  pub block_others_b : LeavesCounts s (each s * i) (each s) (a.seen f) (b.seen f)
+  block_others_b = counted_apart s is.shape.some role_block_on (a.seen f) (b.seen f) good_a.lies last i here grows_within
+
+  pub block_ends_b : EndsBy finish (a.seen f) (b.seen f)
+  block_ends_b = torn_ends finish (end ∷ []) (a.seen f) (b.seen f) (omega arith) (grows.torn told)
+
+  pub block_bare_b : CountsNoOther s i last (a.seen f) → CountsNoOther s i last (b.seen f)
+  block_bare_b = growth_bare is.call is.shape.some role_block_on here disks fresh_behind (end ∷ []) (a.seen f) (b.seen f) refl refl (grows.torn told)
 
   pub block_grown : EachSince b a.now f (IsSafe s disks) × Standing s disks first last f b
   block_grown = leads_stand st role_block_on places_before grows.run told (linked_before (b.seen f) keeps_b.blocks) growing
@@ -335,10 +394,16 @@ module _ {s : Shape} {disks : List (List ℕ)} {first i last slot spot finish en
     counting_d = lead_on grows.run counts.run growing
         (good_leads s role_block_on disks sound_b sound_d counts (λ old new good torn. block_count is.call is.shape.some role_block_on here disks fresh_behind old new good torn))
 
-    keeps_d : Keeps s (a.seen f) (d.seen f)
-    keeps_d = keeps_on s (a.seen f) (b.seen f) (d.seen f) keeps_b
-        (keeps_by s is.shape.some role_block_on (b.seen f) (d.seen f) ((growing.after (holds_of st)).seen told_at_b).lies (Of (Block i))
+    pub block_words_d : SameWords s (a.seen f) (d.seen f)
+    block_words_d = words_on s (a.seen f) (b.seen f) (d.seen f) block_words_b
+        (words_by s is.shape.some role_block_on (b.seen f) (d.seen f) ((growing.after (holds_of st)).seen told_at_b).lies (Of (Block i))
         (around_at spot (0 ∷ 1 ∷ []) (b.seen f) (d.seen f) (omega (arith, is.call.spot_is)) (omega (arith, is.call.spot_is, is.call.slot_in)) (counts.torn told_at_b)) (λ e. cc) (λ e. cc))
+
+    pub block_word_d : u64_at (d.seen f) at ≡ u64_at (a.seen f) at
+    block_word_d = word_stays (d.seen f) block_words_d
+
+    keeps_d : Keeps s (a.seen f) (d.seen f)
+    keeps_d = keeps_words s (a.seen f) (d.seen f) block_words_d
 
     good_b : Good (b.seen f)
     good_b = (growing.after (holds_of st)).seen told_at_b
@@ -351,6 +416,18 @@ module _ {s : Shape} {disks : List (List ℕ)} {first i last slot spot finish en
           (around_at spot (0 ∷ 1 ∷ []) (b.seen f) (d.seen f) (omega (arith, is.call.spot_is)) (omega (arith, is.call.spot_is, is.call.slot_in)) (counts.torn told_at_b)) (λ e. cc) (λ x e. cc) (λ x y e. cc));
     }
 
+    pub block_others_d : LeavesCounts s (each s * i) (each s) (a.seen f) (d.seen f)
+    block_others_d k many c out =
+        counted_apart s is.shape.some role_block_on (b.seen f) (d.seen f) good_b.lies last i here
+        (spares_more spot 2 (place s last) (size s) (b.seen f) (d.seen f) (omega (arith, is.call.spot_is)) (omega (arith, is.call.spot_is, is.call.slot_in)) (torn_spares spot (0 ∷ 1 ∷ []) (b.seen f) (d.seen f) (counts.torn told_at_b)))
+        k many (block_others_b k many c out) out
+
+    pub block_ends_d : EndsBy finish (a.seen f) (d.seen f)
+    block_ends_d = omega (arith, block_ends_b, torn_ends spot (0 ∷ 1 ∷ []) (b.seen f) (d.seen f) (omega arith) (counts.torn told_at_b), is.call.spot_is, is.call.slot_in, is.call.finish_is, place_next s last)
+
+    pub block_bare_d : CountsNoOther s i last (a.seen f) → CountsNoOther s i last (d.seen f)
+    block_bare_d none = count_bare is.call is.shape.some role_block_on here disks fresh_behind (b.seen f) (d.seen f) (counts.torn told_at_b) (block_bare_b none)
+
     pub block_counted : EachSince d a.now f (IsSafe s disks) × Standing s disks first last f d
     block_counted = leads_stand st role_block_on places_before run_d told (linked_before (d.seen f) keeps_d.blocks) counting_d
 
@@ -361,11 +438,26 @@ module _ {s : Shape} {disks : List (List ℕ)} {first i last slot spot finish en
       syncing_e : Leads f Was Was (IsSafe s disks) Good Good a e
       syncing_e = lead_on run_d syncs.run counting_d (good_sync s role_block_on disks sound_d syncs)
 
+      pub block_words_e : SameWords s (a.seen f) (e.seen f)
+      block_words_e = subst (SameWords s (a.seen f)) (sym syncs.seen) block_words_d
+
+      pub block_word_e : u64_at (e.seen f) at ≡ u64_at (a.seen f) at
+      block_word_e = word_stays (e.seen f) block_words_e
+
       keeps_e : Keeps s (a.seen f) (e.seen f)
       keeps_e = subst (Keeps s (a.seen f)) (sym syncs.seen) keeps_d
 
       pub block_leaves_e : LeavesGuest s (a.seen f) (e.seen f)
       block_leaves_e = subst (LeavesGuest s (a.seen f)) (sym syncs.seen) block_leaves_d
+
+      pub block_others_e : LeavesCounts s (each s * i) (each s) (a.seen f) (e.seen f)
+      block_others_e = subst (LeavesCounts s (each s * i) (each s) (a.seen f)) (sym syncs.seen) block_others_d
+
+      pub block_ends_e : EndsBy finish (a.seen f) (e.seen f)
+      block_ends_e = subst (EndsBy finish (a.seen f)) (sym syncs.seen) block_ends_d
+
+      pub block_bare_e : CountsNoOther s i last (a.seen f) → CountsNoOther s i last (e.seen f)
+      block_bare_e none = subst (CountsNoOther s i last) (sym syncs.seen) (block_bare_d none)
 
       pub block_synced : EachSince e a.now f (IsSafe s disks) × Standing s disks first last f e
       block_synced = leads_stand st role_block_on places_before run_e told (linked_before (e.seen f) keeps_e.blocks) syncing_e
@@ -429,6 +521,13 @@ module _ {s : Shape} {disks : List (List ℕ)} {first i last slot spot finish en
             (λ (new : g.seen f ≡ overlay (e.seen f) row_at bytes). subst (Keeps s (e.seen f)) (sym new) (block_row_keeps is.call is.shape.some role_block_on here disks fresh_behind is.shape bytes eight says only (e.seen f) prepared_e.0 prepared_e.1))
             link_either)
 
+        pub block_words_g : SameTables s (a.seen f) (g.seen f) × SameBlocksBut s i (a.seen f) (g.seen f)
+        block_words_g =
+            let same = words_block s is.shape.some role_block_on (e.seen f) (g.seen f) prepared_e.0.lies i is.call.inside
+            (spares_more row_at (length bytes) row_at 8 (e.seen f) (g.seen f) (omega arith) (omega (arith, eight))
+            (torn_spares row_at bytes (e.seen f) (g.seen f) (link_at.torn told_e))) in
+            (λ m inside. same.0 m inside ∙ block_words_e.0 m inside, λ m inside differ. same.1 m inside differ ∙ block_words_e.1 m inside)
+
         pub block_leaves_g : LeavesGuest s (a.seen f) (g.seen f)
         block_leaves_g = record {
           keeps = keeps_g;
@@ -438,18 +537,53 @@ module _ {s : Shape} {disks : List (List ℕ)} {first i last slot spot finish en
               link_either);
         }
 
+        pub block_others_g : LeavesCounts s (each s * i) (each s) (a.seen f) (g.seen f)
+        block_others_g k many c out =
+            let was = block_others_e k many c out in
+            ⊎_elim
+            (λ (same : g.seen f ≡ e.seen f). subst (λ (x : List ℕ). IsCounted s x k many) (sym same) was)
+            (λ (new : g.seen f ≡ overlay (e.seen f) row_at bytes). subst (λ (x : List ℕ). IsCounted s x k many) (sym new) (block_row_counts is.call is.shape.some role_block_on here disks fresh_behind is.shape bytes eight says only (e.seen f) prepared_e.0 prepared_e.1 k many was))
+            link_either
+
+        pub block_ends_g : EndsBy finish (a.seen f) (g.seen f)
+        block_ends_g = omega (arith, block_ends_e, torn_length row_at bytes (e.seen f) (g.seen f) (link_at.torn told_e) (omega (arith, count_inside s role_block_on i (e.seen f) is.shape.some is.call.inside prepared_e.0.lies, eight)))
+
+        -- the counts of the block are the same
+        halves_g : (t : ℕ) → t < each s → u16_at (g.seen f) (place s last + 2 * t) ≡ u16_at (e.seen f) (place s last + 2 * t)
+        halves_g t t_in = ⊎_elim
+            (λ (same : g.seen f ≡ e.seen f). ap (λ (c : List ℕ). u16_at c (place s last + 2 * t)) same)
+            (λ (new : g.seen f ≡ overlay (e.seen f) row_at bytes). ap (λ (c : List ℕ). u16_at c (place s last + 2 * t)) new
+            ∙ block_row_half is.call is.shape.some role_block_on here disks fresh_behind is.shape bytes eight says only (e.seen f) prepared_e.0 prepared_e.1 t t_in)
+            link_either
+
+        pub block_bare_g : CountsNoOther s i last (a.seen f) → CountsNoOther s i last (g.seen f)
+        block_bare_g none t t_in other = halves_g t t_in ∙ block_bare_e none t t_in other
+
         pub block_wrote : EachSince g a.now f (IsSafe s disks) × Standing s disks first last f g
         block_wrote = (since_g, stand_on role_block_on places_before told_g (linked_before (g.seen f) keeps_g.blocks) (linking.after holds_e))
 
-        module _ (wrote_g : HasWritten f at bytes e g) where
-          seen_g : g.seen f ≡ overlay (e.seen f) row_at bytes
-          seen_g = wrote_g.seen told_e ∙ ap (λ (p : ℕ). overlay (e.seen f) p bytes) is.call.at_is
+        there : g.seen f ≡ overlay (e.seen f) row_at bytes → IsBlock s (g.seen f) i last
+        there new = record {
+          inside = is.call.inside;
+          some = is.call.some;
+          at = ap (λ (c : List ℕ). u64_at c row_at) new ∙ number-overlay_same w64 (e.seen f) row_at bytes eight ∙ says ∙ is.call.word_is;
+        }
 
+        pub block_either : (u64_at (g.seen f) at ≡ u64_at (a.seen f) at) ⊎ IsBlock s (g.seen f) i last
+        block_either = ⊎_elim
+            (λ (same : g.seen f ≡ e.seen f). inl (ap (λ (c : List ℕ). u64_at c at) same ∙ block_word_e))
+            (λ (new : g.seen f ≡ overlay (e.seen f) row_at bytes). inr (there new))
+            link_either
+
+        module _ (wrote_g : HasWritten f at bytes e g) where
           pub block_there : IsBlock s (g.seen f) i last
-          block_there = record {
-            inside = is.call.inside;
-            some = is.call.some;
-            at = ap (λ (c : List ℕ). u64_at c row_at) seen_g ∙ number-overlay_same w64 (e.seen f) row_at bytes eight ∙ says ∙ is.call.word_is;
+          block_there = there (wrote_g.seen told_e ∙ ap (λ (p : ℕ). overlay (e.seen f) p bytes) is.call.at_is)
+
+          pub block_is_bare : CountsNoOther s i last (a.seen f) → IsBareBlock s i last (g.seen f)
+          block_is_bare none = record {
+            linked = block_there;
+            one = record { index = i; slot = slot; block = last; is = is.call.is; inside = is.call.slot_in; linked = block_there; count = halves_g slot is.call.slot_in ∙ prepared_e.1.0 };
+            none = λ t t_in other. record { index = i; slot = t; block = last; is = refl; inside = t_in; linked = block_there; count = block_bare_g none t t_in other };
           }
 
           linked_after : AreLinked s role_block_on (last + 1) (g.seen f)
@@ -494,9 +628,12 @@ module _ {s : Shape} {disks : List (List ℕ)} {taken : ℕ → Bool} {last q i 
   around_block : Elsewhere s rests.role (Of (Block i)) (a.seen f) (b.seen f)
   around_block = within s rests.role (Of (Block i)) q (a.seen f) (b.seen f) q_role around
 
+  pub settled_words : SameWords s (a.seen f) (b.seen f)
+  settled_words = words_by s shape.some rests.role (a.seen f) (b.seen f) rests.seen.lies (Of (Block i)) around_block (λ e. cc) (λ e. cc)
+
   pub settled_leaves : LeavesGuest s (a.seen f) (b.seen f)
   settled_leaves = record {
-    keeps = keeps_by s shape.some rests.role (a.seen f) (b.seen f) rests.seen.lies (Of (Block i)) around_block (λ e. cc) (λ e. cc);
+    keeps = keeps_words s (a.seen f) (b.seen f) settled_words;
     alike = quiet_alike s shape.some rests.role (a.seen f) (b.seen f) rests.seen.lies rests.seen.forms (Of (Block i)) around_block (λ e. cc) (λ x e. cc) (λ x y e. cc);
   }
 

@@ -6,12 +6,12 @@ use Rattle.disk_model.proofs.Laws.{write_leads, byte-overlay_in, byte-overlay_ou
 use Rattle.image_model.specs.Clusters.{Shape, size, per, place, Block, Table, Guest, IsTable, Use, Fresh, Spare, Ready, Of, IsBlank, SameIn, host, IsGood, IsSafe, IsOwn, Standing}
 use Rattle.image_model.specs.Calls.{LeavesGuest}
 use Rattle.image_model.specs.Runs.{IsFilling, AreFilled, Filled, HasData, IsLinking, LeavesRest, IsLinked, AreAsBefore, AreLinked}
-use Rattle.image_steps.proofs.Places.{Elsewhere, Spares, spared_cluster}
+use Rattle.image_steps.proofs.Places.{Elsewhere, Spares, within, spared_cluster}
 use Rattle.image_steps.proofs.Good.{safe, more_safe}
 use Rattle.image_steps.proofs.Calls.{mixed_now}
 use Rattle.image_steps.proofs.Standing.{Places, is_ready, holds_of, stand_on}
 use Rattle.image_steps.proofs.Kept.{guest_some}
-use Rattle.image_steps.proofs.Links.{keeps_by}
+use Rattle.image_steps.proofs.Links.{SameWords, words_by, keeps_words}
 use Rattle.image_steps.proofs.Naming.{quiet_alike, entry_some}
 use Rattle.image_steps.proofs.Rows as rows
 use Rattle.image_steps.proofs.Neighbours.{IsIdle, Where, In, Out, where_is, ranged, ranged_in, ranged_out, change_range, IsSparing, fill_elsewhere, fill_good, row_spares, word_out, sets, not_table, named_host, part_is, sector_either, linked_run}
@@ -64,9 +64,12 @@ module _ {s : Shape} {disks : List (List ℕ)} {first last k n at f : ℕ} {byte
   fill_apart : Elsewhere s st.role Ready (a.seen f) (b.seen f)
   fill_apart = fill_elsewhere s is.shape k n at bytes is.low is.high st.role fill_role filling (a.seen f) (b.seen f) (call.torn told)
 
+  pub fill_words : SameWords s (a.seen f) (b.seen f)
+  fill_words = words_by s is.shape.some st.role (a.seen f) (b.seen f) st.seen.lies Ready fill_apart (λ e. cc) (λ e. cc)
+
   pub fill_leaves : LeavesGuest s (a.seen f) (b.seen f)
   fill_leaves = record {
-    keeps = keeps_by s is.shape.some st.role (a.seen f) (b.seen f) st.seen.lies Ready fill_apart (λ e. cc) (λ e. cc);
+    keeps = keeps_words s (a.seen f) (b.seen f) fill_words;
     alike = quiet_alike s is.shape.some st.role (a.seen f) (b.seen f) st.seen.lies st.seen.forms Ready fill_apart (λ e. cc) (λ x e. cc) (λ x y e. cc);
   }
 
@@ -203,12 +206,14 @@ module _ {s : Shape} {disks : List (List ℕ)} {first last k n q i j spot f : �
       by_place (In m m_in at_y) = absurd (other here (omega (arith, at_y)) (omega (arith, at_y, m_in)))
       by_place (Out out) = word_out s is.shape link_role k n q i j is.some table_role is.slots.slots words is.links owners (a.seen f) (b.seen f) torn y out
 
+  pub link_words : SameWords s (a.seen f) (b.seen f)
+  link_words =
+      words_by s is.shape.some link_role (a.seen f) (b.seen f) good.lies (Of (Table i))
+      (within s link_role (Of (Table i)) q (a.seen f) (b.seen f) table_role spares) (λ e. cc) (λ e. cc)
+
   pub link_leaves : LeavesRest s i j n (a.seen f) (b.seen f)
   link_leaves = record {
-    keeps = record {
-      blocks = rows.rows_block_on s is.shape.some link_role (a.seen f) (b.seen f) good.lies good.forms q i table_role spares set_words;
-      tables = rows.rows_on s is.shape.some link_role (a.seen f) (b.seen f) good.lies good.forms q i table_role spares set_words;
-    };
+    keeps = keeps_words s (a.seen f) (b.seen f) link_words;
     entries = λ x y x_in y_in other. rows.rows_entry s is.shape.some link_role (a.seen f) (b.seen f) good.lies good.forms q i table_role spares set_words x y x_in y_in (same_word x y other);
     disk = λ x y o x_in y_in o_in other. rows.rows_shows s is.shape.some link_role (a.seen f) (b.seen f) good.lies good.forms q i table_role spares set_words x y o x_in y_in o_in (same_word x y other);
   }
@@ -235,16 +240,19 @@ module _ {s : Shape} {disks : List (List ℕ)} {first last k n q i j spot f : �
     stand_on link_role link_places (subst IsTrue (sym call.run.goes.tells) told) (λ x y of low. link_leaves.keeps.blocks x y (st.linked x y (link_was_block x y of) low)) (link_leads.after link_holds),
   )
 
+  -- whatever it did, the data stays in its clusters
+  pub link_data : (m : ℕ) → m < n → SameIn s (k + m) (a.seen f) (b.seen f)
+  link_data m m_in = spared_cluster s q (a.seen f) (b.seen f) spares (k + m) (not_table s is.shape link_role k n q i j is.some table_role is.slots.slots words is.links owners m m_in)
+
   -- where the word was written
   link_named : (m : ℕ) → m < n → u64_at (b.seen f) (place s q + 8 * (j + m)) ≡ u64_at words (8 * m) → IsLinked s i (j + m) (k + m) (u64_at words (8 * m)) (a.seen f) (b.seen f)
   link_named m m_in word =
       let more : 0 < k + m = omega (arith, is.some) in
       let there : host s (b.seen f) i (j + m) ≡ place s (k + m) = named_host s is.shape link_role k n q i j is.some table_role is.slots.slots words is.links owners (a.seen f) (b.seen f) good.lies good.forms torn table m (j + m) m_in word in
-      let same : SameIn s (k + m) (a.seen f) (b.seen f) = spared_cluster s q (a.seen f) (b.seen f) spares (k + m) (not_table s is.shape link_role k n q i j is.some table_role is.slots.slots words is.links owners m m_in) in
       record {
         names = entry_some s (b.seen f) i (j + m) q is.shape.some table_b ∙ word;
         at = there;
-        shows = λ t t_in. guest_some s (b.seen f) i (j + m) t (k + m) is.shape.some more there ∙ same (place s (k + m) + t) (omega arith) (omega (arith, t_in));
+        shows = λ t t_in. guest_some s (b.seen f) i (j + m) t (k + m) is.shape.some more there ∙ link_data m m_in (place s (k + m) + t) (omega arith) (omega (arith, t_in));
       }
 
   -- whatever the write answered: the entries of a sector are as before, or all of them are linked

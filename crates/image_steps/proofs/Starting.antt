@@ -1,8 +1,8 @@
 -- From what an opening finds to a standing.
-use Rattle.std.proofs.Common.{◌≡◌, inl, ℕ, ◌+◌, ◌≤◌, IsTrue, List, [], ◌∷◌, length, refl, sym, ◌∙◌, ap, subst, arith}
-use Rattle.disk_model.specs.Files.{overlay}
-use Rattle.disk_model.specs.World.{World, IsSound, Writes, HasWritten, Syncs, HasSynced, EachNow, EachSince, Leads, Holds}
-use Rattle.disk_model.proofs.Laws.{write_leads, sync_leads, lead_on, synced_exact, length-overlay}
+use Rattle.std.proofs.Common.{◌≡◌, inl, ⊎_elim, ℕ, ◌+◌, ◌≤◌, IsTrue, List, [], ◌∷◌, length, refl, sym, ◌∙◌, ap, subst, arith}
+use Rattle.disk_model.specs.Files.{overlay, after_sync}
+use Rattle.disk_model.specs.World.{World, IsSound, Writes, HasWritten, Syncs, HasSynced, EachNow, EachSince, EachSinceSync, Leads, Holds, versions}
+use Rattle.disk_model.proofs.Laws.{write_leads, sync_leads, sync_failed, sync_done, told_by, lead_on, synced_exact, length-overlay}
 use Rattle.image_model.specs.Clusters.{Shape, place, IsGood, IsSafe, Standing, Block}
 use Rattle.image_model.specs.Calls.{IsOpened, IsReach, Beginning}
 use Rattle.image_steps.proofs.Opening.{role_at, role_back, same_block, fresh_from, one_block, opened_good, opened_safe, reaches, IsReaching, reaching}
@@ -73,3 +73,12 @@ module _ {s : Shape} {next finish f : ℕ} {file : List ℕ} {a b : World} (ends
           reaching s next file begins.opened (d.seen f) (omega (arith, at, length-overlay (a.seen f) finish (0 ∷ []) (omega arith), ends)))
           (synced_exact sound_b syncs synced),
     )
+
+-- a sync of it, whatever it answered: of each crash since it was done
+pub opened_crash : {s : Shape} {next f : ℕ} {a b : World} → IsSound a → IsSound b → Syncs f a b → (IsTrue a.tells → IsOpened s next (a.seen f)) → EachSinceSync a b f (IsSafe s (a.seen f ∷ []))
+opened_crash {s} {next} {f} {a} {b} sound sound_b call opened = ⊎_elim
+    (λ (same : versions b f ≡ versions a f). sync_failed (IsSafe s (a.seen f ∷ [])) call same)
+    (λ (done : versions b f ≡ after_sync (versions a f)). sync_done (IsSafe s (a.seen f ∷ [])) call (λ c left.
+    let told : IsTrue a.tells = subst IsTrue call.run.goes.tells (told_by b f c sound_b left) in
+    subst (IsSafe s (a.seen f ∷ [])) (sym (synced_exact sound call (record { versions = done }) c left ∙ call.seen)) (opened_safe s next (a.seen f) (opened told) (a.seen f) (record { longer = omega arith; bytes = λ i. refl }))))
+    call.may

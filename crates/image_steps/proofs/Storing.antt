@@ -1,7 +1,7 @@
 -- Data first, and then the entries that name it.
 use Rattle.std.proofs.Common.{ℕ, ◌+◌, ◌<◌, ◌≤◌, IsTrue, List, ◌∷◌, ◌∙◌, subst, arith}
 use Rattle.disk_model.specs.World.{World, Parts, Runs}
-use Rattle.image_model.specs.Clusters.{Shape, per, IsStanding}
+use Rattle.image_model.specs.Clusters.{Shape, per, place, SameIn, IsStanding}
 use Rattle.image_model.specs.Calls.{LeavesGuest}
 use Rattle.image_model.specs.Runs.{IsFilling, IsHolding, HasData, IsLinking, LeavesRest, IsLinked, AreAsBefore, IsStored}
 use Rattle.image_steps.proofs.Links.{keeps_on, keeps_takeable}
@@ -61,6 +61,13 @@ stored_by s k n i j m word at bytes old new has m_in is = record {
     inside = λ t t_in low high. is.shows t t_in ∙ has.inside m t m_in t_in low high;
     outside = λ t t_in out. is.shows t t_in ∙ has.outside m t m_in t_in out;
   };
+}
+
+-- it stays there while its clusters do
+pub has_data_on : (s : Shape) (k n at : ℕ) (bytes old new : List ℕ) → HasData s k n at bytes old → ((m : ℕ) → m < n → SameIn s (k + m) old new) → HasData s k n at bytes new
+has_data_on s k n at bytes old new has same = record {
+  inside = λ m t m_in t_in low high. same m m_in (place s (k + m) + t) (omega arith) (omega (arith, t_in)) ∙ has.inside m t m_in t_in low high;
+  outside = λ m t m_in t_in out. same m m_in (place s (k + m) + t) (omega arith) (omega (arith, t_in)) ∙ has.outside m t m_in t_in out;
 }
 
 pub before_after : (s : Shape) (q i j n x : ℕ) (a b c : List ℕ) (slots : (m : ℕ) → m < n → j + m < per s) → i < s.tables → LeavesGuest s a b → AreAsBefore s q i j n x b c → AreAsBefore s q i j n x a c

@@ -7,7 +7,8 @@ use Rattle.disk_model.specs.World.{World, Parts, Runs, Syncs, HasSynced, version
 use Rattle.disk_model.proofs.Laws.{number_same, same_file, byte-overlay_in, byte-overlay_outside, length-overlay_inside, told_at, whole_torn, synced_exact, sync_keeps, since_sync, sync_more}
 use Rattle.qc_layout.specs.Header.{fields_of}
 use Rattle.qc_layout.specs.Disks.{bits_of, words_in, counts_in}
-use Rattle.image_model.specs.Clusters.{Shape, size, per, place, Who, Head, Counts, Block, Tables, Table, Guest, Bitmaps, Held, IsBlock, IsTable, IsGuest, Refers, IsCounted, Use, Free, Fresh, Spare, Ready, Of, IsTaken, IsBlank, IsFixed, IsFixedFor, SameIn, IsZero, IsUsed, IsShape, IsPlace, IsOffset, Lies, Forms, IsTableWord, IsGuestWord, IsKept, IsGood, IsSafe, IsHeld, IsOwn, IsOwnCount, Standing, IsStanding, Moves}
+use Rattle.qc_layout.specs.Owners.{Held}
+use Rattle.image_model.specs.Clusters.{Shape, size, per, place, Who, Head, Counts, Block, Tables, Table, Guest, Bitmaps, IsBlock, IsTable, IsGuest, Refers, IsCounted, Use, Free, Fresh, Spare, Ready, Of, IsTaken, IsBlank, IsFixed, IsFixedFor, SameIn, IsZero, IsUsed, IsShape, IsPlace, IsOffset, Lies, Forms, IsTableWord, IsGuestWord, IsKept, IsGood, IsSafe, IsHeld, IsOwn, IsOwnCount, Standing, IsStanding, Moves}
 use Rattle.image_model.specs.Turns.{SameNumbers, SameHead, IsLoose, IsTurn, Stood, rebased, IsTurned, Turns, Wavering, Turning, IsEither}
 use Rattle.image_steps.proofs.Places.{Spares, Elsewhere, within, spares_more, torn_spares, place_zero}
 use Rattle.image_steps.proofs.Steps.{taken_of, same_count, guest_back}
@@ -649,7 +650,7 @@ module _ (s t : Shape) (disks : List (List ℕ)) (first last : ℕ) (sector : Li
 -- ---- after one that failed, a sync tells which it is
 
 pub turn_rests : {s t : Shape} {disks : List (List ℕ)} {first last f : ℕ} {sector : List ℕ} {a b : World} → IsSound a → Syncs f a b → HasSynced f a b → Turning s t disks first last sector f a → IsTrue b.tells
-    → Standing s (b.seen f ∷ []) first last f b ⊎ Standing t (b.seen f ∷ []) first last f b
+    → Standing s (b.seen f ∷ []) first last f b ⊎ (Standing t (b.seen f ∷ []) first last f b × IsShape t)
 turn_rests {s} {t} {disks} {first} {last} {f} {sector} {a} {b} sound call synced is told =
     let told_a : IsTrue a.tells = subst IsTrue call.run.goes.tells told in
     let same = synced_exact sound call synced in
@@ -657,7 +658,7 @@ turn_rests {s} {t} {disks} {first} {last} {f} {sector} {a} {b} sound call synced
       | inl here ↦ inl (stood_stands (subst (Stood s disks first last) (sym call.seen) (stood_of here.0)) same)
       | inr between ↦ elim between.seen [
         | inl old ↦ inl (stood_stands (subst (Stood s disks first last) (sym call.seen) old.0) same)
-        | inr new ↦ inr (stood_stands (subst (Stood t disks first last) (sym call.seen) new.stood) same)
+        | inr new ↦ inr (stood_stands (subst (Stood t disks first last) (sym call.seen) new.stood) same, new.shape)
       ]
     ]
 

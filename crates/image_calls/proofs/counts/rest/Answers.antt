@@ -1,6 +1,7 @@
 use Rattle.std.proofs.Common.{ℕ, List, Bool, subst, sym}
 use Rattle.std.proofs.lemmas.Result.{on_ok_weaker}
 use Rattle.disk_model.specs.World.{HasSynced}
+use Rattle.file_device.proofs.Laws.{settled_on}
 use Rattle.image_model.specs.Clusters.{Shape, IsSafe}
 use Rattle.image_model.specs.Calls.{Told, AreExactly}
 use Rattle.image_steps.proofs.Standing.{moves_of}
@@ -29,3 +30,6 @@ returns-clause-rests g c =
     moves_of (IsSafe s disks) c.sync.ensures.synced.call.run (sound _)
     (λ told st. synced_rests (sound _) c.sync.ensures.synced.call told st synced taken (subst (AreExactly s taken) (sym c.sync.ensures.synced.call.seen) (exactly told))))
     c.sync.ensures.synced.done
+
+pub returns-clause-settled : goal.returns-clause-settled
+returns-clause-settled g c = settled_on c.sync.result c.sync.ensures.synced

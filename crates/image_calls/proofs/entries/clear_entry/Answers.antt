@@ -5,7 +5,8 @@ use Rattle.disk_model.specs.World.{HasWritten}
 use Rattle.image_model.specs.Clusters.{Shape, IsShape, IsTable, IsSafe, IsStanding}
 use Rattle.image_model.specs.Calls.{IsSlot, Told}
 use Rattle.image_steps.proofs.Standing.{moves_of}
-use Rattle.image_steps.proofs.Entries.{cleared, cleared_done, cleared_leaves, cleared_whether}
+use Rattle.image_steps.proofs.Entries.{cleared, cleared_done, cleared_leaves, cleared_whether, cleared_words}
+use Rattle.image_calls.proofs.Beside.{wrote_beside}
 use Rattle.image_calls.proofs.entries.clear_entry.Goals as goal
 
 pub returns-clause-moves : goal.returns-clause-moves
@@ -39,3 +40,13 @@ returns-clause-whether g c s disks first last q i j shape slot table stands told
     let eight : length c.to_be_bytes.result ≡ 8 = search rules in
     let none : from_be_bytes w64 c.to_be_bytes.result ≡ 0 = search rules in
     cleared_whether shape slot (sound _) (sound _) c.write.ensures.wrote.call eight none told (table told) (stands told)
+
+pub returns-clause-rows : goal.returns-clause-rows
+returns-clause-rows g c s disks first last q i j shape slot table stands told =
+    let sound = g.met.D.Depot.sound in
+    let eight : length c.to_be_bytes.result ≡ 8 = search rules in
+    let none : from_be_bytes w64 c.to_be_bytes.result ≡ 0 = search rules in
+    cleared_words shape slot (sound _) (sound _) c.write.ensures.wrote.call eight none told (table told) (stands told)
+
+pub returns-clause-frame : goal.returns-clause-frame
+returns-clause-frame g c told x out = wrote_beside c.write.ensures.wrote.call (search rules) told x out

@@ -1,10 +1,11 @@
-use Rattle.std.proofs.Common.{ℕ, ◌∷◌, ◌<◌, List, IsTrue, length}
+use Rattle.std.proofs.Common.{ℕ, ◌∷◌, ◌<◌, List, IsTrue, length, refl}
 use Rattle.std.proofs.lemmas.Result.{on_ok_weaker}
 use Rattle.disk_model.specs.World.{HasWritten}
 use Rattle.image_model.specs.Clusters.{Shape, per, IsShape, IsSafe, IsStanding}
 use Rattle.image_model.specs.Calls.{Told, IsIn, IsData}
 use Rattle.image_steps.proofs.Standing.{moves_of}
-use Rattle.image_steps.proofs.Entries.{overwritten, over_leaves, over_shows, over_entries, over_partly}
+use Rattle.image_steps.proofs.Entries.{overwritten, over_leaves, over_shows, over_entries, over_partly, over_words}
+use Rattle.image_calls.proofs.Beside.{wrote_beside}
 use Rattle.image_calls.proofs.entries.overwrite.Goals as goal
 
 pub returns-clause-moves : goal.returns-clause-moves
@@ -36,3 +37,11 @@ pub returns-clause-partly : goal.returns-clause-partly
 returns-clause-partly g c s disks first last k i j shape i_in j_in inside there stands told =
     let sound = g.met.D.Depot.sound in
     over_partly shape i_in j_in inside (sound _) (sound _) c.write.ensures.wrote.call told (there told) (stands told)
+
+pub returns-clause-rows : goal.returns-clause-rows
+returns-clause-rows g c s disks first last k i j shape i_in j_in inside there stands told =
+    let sound = g.met.D.Depot.sound in
+    over_words shape i_in j_in inside (sound _) (sound _) c.write.ensures.wrote.call told (there told) (stands told)
+
+pub returns-clause-frame : goal.returns-clause-frame
+returns-clause-frame g c told x out = wrote_beside c.write.ensures.wrote.call refl told x out

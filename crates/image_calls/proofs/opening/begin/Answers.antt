@@ -4,7 +4,7 @@ use Rattle.disk_model.specs.World.{HasSynced}
 use Rattle.disk_model.proofs.Laws.{synced_exact}
 use Rattle.image_model.specs.Clusters.{Shape}
 use Rattle.image_model.specs.Calls.{Told, IsOpened, AreInside}
-use Rattle.image_steps.proofs.Starting.{begins_here, begun_stands}
+use Rattle.image_steps.proofs.Starting.{begins_here, begun_stands, opened_crash}
 use Rattle.image_calls.proofs.opening.begin.Goals as goal
 
 pub returns-clause-begins : goal.returns-clause-begins
@@ -24,3 +24,6 @@ returns-clause-stands g c =
     let same = synced_exact (sound _) c.sync.ensures.synced.call synced in
     begun_stands (begins_here (subst (IsOpened s next) (sym c.sync.ensures.synced.call.seen) (opened told_a)) same) (subst (AreInside s) (sym c.sync.ensures.synced.call.seen) (long told_a)) same)
     c.sync.ensures.synced.done
+
+pub returns-clause-crash : goal.returns-clause-crash
+returns-clause-crash g c s next opened = let sound = g.met.D.Depot.sound in opened_crash (sound _) (sound _) c.sync.ensures.synced.call opened

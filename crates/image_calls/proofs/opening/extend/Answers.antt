@@ -1,4 +1,4 @@
-use Rattle.std.proofs.Common.{◌≡◌, ℕ, ◌+◌, ◌≤◌, List, [], ◌∷◌, length}
+use Rattle.std.proofs.Common.{◌≡◌, ℕ, ◌+◌, ◌≤◌, List, [], ◌∷◌, length, refl, ◌∙◌}
 use Rattle.std.proofs.lemmas.Result.{on_ok_weaker}
 use Rattle.disk_model.specs.World.{HasSynced}
 use Rattle.disk_model.proofs.Laws.{run_on}
@@ -6,6 +6,7 @@ use Rattle.file_device.proofs.Laws.{puts_on}
 use Rattle.image_model.specs.Clusters.{Shape, place, IsSafe}
 use Rattle.image_steps.proofs.Starting.{grown, grown_synced, grown_stands}
 use Rattle.image_steps.proofs.Standing.{moves_of}
+use Rattle.image_calls.proofs.Beside.{wrote_beside, synced_beside}
 use Rattle.image_calls.proofs.opening.extend.Goals as goal
 
 pub returns-in_err-write-clause-begins : goal.returns-in_err-write-clause-begins
@@ -30,3 +31,9 @@ returns-clause-stands g c =
 
 pub returns-clause-puts : goal.returns-clause-puts
 returns-clause-puts g c = puts_on c.in_ok-write.ensures.wrote.puts c.sync.ensures.synced.puts
+
+pub returns-in_err-write-clause-frame : goal.returns-in_err-write-clause-frame
+returns-in_err-write-clause-frame g c told x out = wrote_beside c.in_err-write.ensures.wrote.call refl told x out
+
+pub returns-clause-frame : goal.returns-clause-frame
+returns-clause-frame g c told x out = synced_beside c.sync.ensures.synced.call x ∙ wrote_beside c.in_ok-write.ensures.wrote.call refl told x out

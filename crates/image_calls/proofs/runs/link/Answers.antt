@@ -1,10 +1,11 @@
-use Rattle.std.proofs.Common.{ℕ, ◌∷◌, List, IsTrue}
+use Rattle.std.proofs.Common.{ℕ, ◌∷◌, List, IsTrue, refl}
 use Rattle.std.proofs.lemmas.Result.{on_ok_weaker}
 use Rattle.disk_model.specs.World.{HasWritten}
 use Rattle.image_model.specs.Clusters.{Shape, IsSafe}
 use Rattle.image_model.specs.Runs.{IsLinking, IsHolding}
 use Rattle.image_steps.proofs.Standing.{moves_of}
-use Rattle.image_steps.proofs.RunCalls.{linked, link_leaves, link_either, link_done}
+use Rattle.image_steps.proofs.RunCalls.{linked, link_leaves, link_either, link_data, link_done, link_words}
+use Rattle.image_calls.proofs.Beside.{wrote_beside}
 use Rattle.image_calls.proofs.runs.link.Goals as goal
 
 pub returns-clause-moves : goal.returns-clause-moves
@@ -30,3 +31,16 @@ returns-clause-linked g c =
     (is : IsLinking s first k n q i j c.args.spot c.args.file.0 c.args.entries.now (g.D.Outside.world c.args.depot.now)) (holds : IsHolding s disks k n first last c.args.file.0 (g.D.Outside.world c.args.depot.now)) (told : IsTrue (g.D.Outside.world c.args.depot.now).tells).
     link_done is (sound _) (sound _) c.write.ensures.wrote.call told (holds told) done)
     c.write.ensures.wrote.done
+
+pub returns-clause-stays : goal.returns-clause-stays
+returns-clause-stays g c s disks first last k n q i j is holds told =
+    let sound = g.met.D.Depot.sound in
+    link_data is (sound _) (sound _) c.write.ensures.wrote.call told (holds told)
+
+pub returns-clause-rows : goal.returns-clause-rows
+returns-clause-rows g c s disks first last k n q i j is holds told =
+    let sound = g.met.D.Depot.sound in
+    link_words is (sound _) (sound _) c.write.ensures.wrote.call told (holds told)
+
+pub returns-clause-frame : goal.returns-clause-frame
+returns-clause-frame g c told x out = wrote_beside c.write.ensures.wrote.call refl told x out

@@ -1,10 +1,11 @@
-use Rattle.std.proofs.Common.{ℕ, List, IsTrue, length}
+use Rattle.std.proofs.Common.{ℕ, List, IsTrue, length, refl}
 use Rattle.std.proofs.lemmas.Result.{on_ok_weaker}
 use Rattle.disk_model.specs.World.{HasWritten}
 use Rattle.image_model.specs.Clusters.{Shape, IsSafe, IsStanding}
 use Rattle.image_model.specs.Runs.{IsFilling}
 use Rattle.image_steps.proofs.Standing.{moves_of}
-use Rattle.image_steps.proofs.RunCalls.{filled, fill_leaves, fill_data}
+use Rattle.image_steps.proofs.RunCalls.{filled, fill_leaves, fill_data, fill_words}
+use Rattle.image_calls.proofs.Beside.{wrote_beside}
 use Rattle.image_calls.proofs.runs.write_data.Goals as goal
 
 pub returns-clause-moves : goal.returns-clause-moves
@@ -25,3 +26,11 @@ returns-clause-there g c =
     (is : IsFilling s first last k n c.args.at (length c.args.bytes.now) c.args.file.0 (g.D.Outside.world c.args.depot.now)) (stands : IsStanding s disks first last c.args.file.0 (g.D.Outside.world c.args.depot.now)) (told : IsTrue (g.D.Outside.world c.args.depot.now).tells).
     fill_data is (sound _) (sound _) c.write.ensures.wrote.call told (stands told) done)
     c.write.ensures.wrote.done
+
+pub returns-clause-rows : goal.returns-clause-rows
+returns-clause-rows g c s disks first last k n is stands told =
+    let sound = g.met.D.Depot.sound in
+    fill_words is (sound _) (sound _) c.write.ensures.wrote.call told (stands told)
+
+pub returns-clause-frame : goal.returns-clause-frame
+returns-clause-frame g c told x out = wrote_beside c.write.ensures.wrote.call refl told x out

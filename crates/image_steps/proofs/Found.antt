@@ -1,0 +1,106 @@
+-- A file whose header and tables pass has a shape, and is as an opening finds it.
+use Rattle.std.proofs.Common.{◌≡◌, inl, inr, ℕ, ◌+◌, ◌*◌, ◌<◌, List, Option, Some, None, refl, sym, ap, ◌∙◌, arith}
+use Rattle.std.proofs.lemmas.Bool.{cases_lt}
+use Rattle.std.specs.Prelude.{◌%◌, ◌^◌}
+use Rattle.disk_model.specs.Files.{u64_at}
+use Rattle.qc_layout.specs.declared.header.Header.{Header}
+use Rattle.qc_layout.specs.declared.header.Part.TheVariants as parts
+use Rattle.qc_layout.specs.Entries.{l1_of}
+use Rattle.qc_layout.specs.Spelling.{Spells}
+use Rattle.qc_layout.specs.Disks.{bits_of, refcount, reach_of}
+use Rattle.qc_layout.specs.Owners.{Held, Holds, Owner, Image, Owns, Counted, TablesCounted}
+use Rattle.qc_layout.specs.Owners as owners
+use Rattle.qc_layout.specs.Room.{TablesPass, IsFreeFrom, IsNextFree}
+use Rattle.qc_layout.specs.Laws.{IsLoadable}
+use Rattle.qc_layout.proofs.Loading.{holder_of}
+use Rattle.image_model.specs.Clusters.{Shape, per, place, Who, IsTable, Refers, IsOffset, IsShape, OwnsAsListed}
+use Rattle.image_model.specs.Calls.{IsOpened, shape_of}
+use Rattle.image_steps.proofs.Places.{place_some}
+use Rattle.image_steps.proofs.Words.{IsPlain1, IsPlain2, offset_same, l1_plain, l1_some, l2_plain, place_is, words_are, parts, plain_table, plain_guest}
+use Rattle.image_steps.proofs.Bridge.{headed, owner_as, back_of, row_word, count_word, count_of}
+use Rattle.image_steps.proofs.Headers.{owned_shape, header_shape}
+
+-- These are the image's owners, and those that the shape says. No cluster has two of them, and each that has one lies below the reach and is counted.
+pub record AreOwners (s : Shape) (file : List ℕ) (Q : Owner → ℕ → Type 0) : Type 0 where
+  pub image : (a : owners.Who) (k : ℕ) → owners.Refers file a k → Q (Image a) k
+  pub bitmaps : (held : Held) (k : ℕ) → s.owner k ≡ Some held → Q (owners.Bitmaps held) k
+  pub once : (a b : Owner) (k : ℕ) → Q a k → Q b k → a ≡ b
+  pub below : (a : Owner) (k : ℕ) → Q a k → k < reach_of file
+  pub counted : (a : Owner) (k : ℕ) → Q a k → 0 < refcount file k
+
+-- without bitmaps
+pub bare_owners : (s : Shape) (file : List ℕ) → ((k : ℕ) → s.owner k ≡ None) → TablesCounted file
+    → AreOwners s file (λ owner k. (a : owners.Who) × (owner ≡ Image a) × owners.Refers file a k)
+bare_owners s file none tables = record {
+  image = λ a k x. (a, refl, x);
+  bitmaps = λ held k owned. let no = none k in absurd (cc);
+  once = λ a b k x y. x.1 ∙ ap (λ (w : owners.Who). Image w) (tables.once x.0 y.0 k x.2 y.2) ∙ sym y.1;
+  below = λ a k x. tables.below x.0 k x.2;
+  counted = λ a k x. tables.counted x.0 k x.2;
+}
+
+-- with those that the directory lists
+pub listed_owners : (s : Shape) → OwnsAsListed s → Counted s.base → AreOwners s s.base (Owns s.base)
+listed_owners s listed all = record {
+  image = λ a k x. x;
+  bitmaps = λ held k owned. (listed held k).0 owned;
+  once = all.once;
+  below = all.below;
+  counted = all.counted;
+}
+
+pub found_opened : (s : Shape) (next : ℕ) (Q : Owner → ℕ → Type 0) → IsShape s → AreOwners s s.base Q → TablesPass s.base → IsFreeFrom s.base next
+    → IsOpened s next s.base
+found_opened s next Q shape all pass free =
+    let file = s.base in
+    let is = headed s file shape refl in
+    let bits = bits_of file in
+    let block_forms : (i : ℕ) → i < s.blocks → IsOffset s (u64_at file (s.counts + 8 * i)) = λ i inside.
+    let word = u64_at file (s.counts + 8 * i) in
+    let whole = pass.blocks i (omega (arith, inside, is.blocks)) in
+    parts s is.some bits is.cluster word (sym (ap (λ (w : ℕ). w % 2 ^ bits) (count_word s file is i)) ∙ whole) in
+    let rows : (i : ℕ) → i < s.tables → IsPlain1 bits (u64_at file (s.l1 + 8 * i)) = λ i inside.
+    let table = pass.tables i (omega (arith, inside, is.tables)) in
+    l1_plain bits (u64_at file (s.l1 + 8 * i)) table.0 (ap (l1_of bits) (sym (row_word s file is i)) ∙ table.1) in
+    let slots : (i q j : ℕ) → IsTable s file i q → j < per s → IsPlain2 bits (u64_at file (place s q + 8 * j)) = λ i q j linked j_in.
+    let word = u64_at file (s.l1 + 8 * i) in
+    let named = l1_some bits word (place s q) (rows i linked.inside) (offset_same word ∙ linked.at) (place_some s q is.some linked.some) in
+    let order = pass.entries i (place s q) j (omega (arith, linked.inside, is.tables)) (ap (l1_of bits) (row_word s file is i) ∙ named) in
+    l2_plain bits (u64_at file (place s q + 8 * j)) (order (omega (arith, j_in, words_are s is.some bits is.cluster))) in
+    let back : (a : Who) (k : ℕ) → Refers s file a k → (b : Owner) × Q b k × (owner_as b ≡ a) = back_of s file is rows slots Q all.image all.bitmaps in
+    record {
+      shape = shape;
+      counted = record {
+        once = λ a b k x y. let p = back a k x in let q = back b k y in sym p.2 ∙ ap owner_as (all.once p.0 q.0 k p.1 q.1) ∙ q.2;
+        below = λ a k x. let r = back a k x in omega (arith, all.below r.0 k r.1, is.reach);
+        counted = λ a k x. let r = back a k x in (refcount file k, all.counted r.0 k r.1, count_of s file is block_forms k (all.counted r.0 k r.1));
+      };
+      forms = record {
+        blocks = block_forms;
+        tables = λ i inside. plain_table s is.some bits is.cluster (u64_at file (s.l1 + 8 * i)) (rows i inside);
+        entries = λ i q j linked inside. plain_guest s is.some bits is.cluster (u64_at file (place s q + 8 * j)) (slots i q j linked inside);
+      };
+      below = λ a k x. let r = back a k x in elim (cases_lt k next) [
+        | inl low ↦ low
+        | inr from ↦ absurd (omega (arith, free.uncounted k from, all.counted r.0 k r.1))
+      ];
+      end = omega (arith, free.past, place_is s is.some bits is.cluster next);
+      fixed = λ k held i low high. refl;
+    }
+
+-- ---- the laws
+
+pub loadable_opens : (file : List ℕ) (h : Header) (next : ℕ) → Spells parts.Source file h → IsLoadable file → IsNextFree file next
+    → (s : Shape) × (s.base ≡ file) × OwnsAsListed s × IsOpened s next file
+loadable_opens file h next spells load is =
+    let owner : ℕ → Option Held = λ k. (holder_of file h k spells load).0 in
+    let s : Shape = record (shape_of file) { owner = owner } in
+    let owns : OwnsAsListed s = λ held k. (holder_of file h k spells load).1 held in
+    let shape = owned_shape parts.Source file owner spells.numbers in
+    (s, refl, owns, found_opened s next (Owns file) shape (listed_owners s owns load.counted) load.passes is.free)
+
+pub backup_opens : (file : List ℕ) (h : Header) (next : ℕ) → Spells parts.Target file h → TablesPass file → IsNextFree file next
+    → IsOpened (shape_of file) next file
+backup_opens file h next spells pass is =
+    let shape = header_shape parts.Target file spells.numbers in
+    found_opened (shape_of file) next _ shape (bare_owners (shape_of file) file (λ k. refl) pass.counted) pass is.free
