@@ -35,8 +35,8 @@ use Rattle.plain_model.proofs.SettleLaws.{settles}
 use Rattle.core_node.specs.Files.{IsLawfulTarget}
 use Rattle.image_model.specs.Images.{IsSourceOf, IsBackupOf, is_blank, state_of}
 use Rattle.core_node.specs.Rest.{Directory, Files, Allows, directory_of, unused, marked, AreLawful, Mixes, IsReady, IsSafe}
-use Rattle.core_node.specs.Ends.{OpensWithin}
-use Rattle.core_layers.specs.Layers.{IsFound, MayClose, IsInOrder, NoneTrusted, IsMixed, WritesDisk, ClaimsNothing, IsSealedFile, CarriesWrite}
+use Rattle.core_node.specs.Ends.{IsOpening, OpensWithin}
+use Rattle.core_layers.specs.Layers.{IsFound, KeepsOrMarks, MayClose, IsInOrder, NoneTrusted, IsMixed, WritesDisk, ClaimsNothing, IsSealedFile, CarriesWrite}
 use Rattle.core_node.proofs.Rests.{ready_is_safe, mixes_keep, allows_left, allows_right, ready_more, safe_more, kept_more}
 
 -- ---- a file is read in one way
@@ -306,6 +306,10 @@ closed_leads {id} {d} {closing} {h} {mixed} {f} {new} may o = record {
 
 -- ---- an opening over bytes alone
 
+pub only_one : {d found : Directory} → Allows (d ∷ []) found → found ≡ d
+only_one (inl is) = is
+only_one (inr none) = absurd none
+
 next_epoch : (epoch : ℕ) (e : timelines.Entry) → IsOfEpoch epoch e → IsOfEpoch (epoch + 1) e
 next_epoch epoch (timelines.Wrote extent) is = tt
 next_epoch epoch (timelines.Reached p) is = omega (arith, is)
@@ -316,24 +320,22 @@ unused_true h [] = All-nil (λ (e : StoredBitmap). IsTrue e.trusted → IsTrueEn
 unused_true h (e ∷ entries) = All-cons (λ (e : StoredBitmap). IsTrue e.trusted → IsTrueEntry h e) (unused e) (map unused entries) (λ trusted. absurd (false≢true trusted)) (unused_true h entries)
 
 pub found_opens : {id : List ℕ} {d : Directory} {h : History} (f : ℕ) (old new : World) → IsHistory h → IsReady (d ∷ []) id h (old.seen f)
-    → EachSinceSync old new f (IsFound id d (now h)) → IsFound id d (now h) (new.seen f) → OpensWithin f d id h old new
-found_opens {id} {d} {h} f old new history was since seen = record {
+    → EachSinceSync old new f (λ c. IsFound id d (now h) c × KeepsOrMarks (old.seen f) d c) → IsFound id d (now h) (new.seen f)
+    → KeepsOrMarks (old.seen f) d (new.seen f) → OpensWithin f d id h old new
+found_opens {id} {d} {h} f old new history was since seen kept = record {
   since = record {
     moment = since.moment;
     from = since.from;
     to = since.to;
     before = since.before;
-    since = since_more new since.moment f (IsFound id d (now h)) (IsReady (d ∷ marked d ∷ []) id h) found since.since;
+    since = since_more new since.moment f (λ c. IsFound id d (now h) c × KeepsOrMarks (old.seen f) d c) (IsOpening (old.seen f) d id h)
+        (λ c is. (found c is.0, is.1.0, is.1.1)) since.since;
   };
-  seen = found (new.seen f) seen;
+  seen = (found (new.seen f) seen, kept.0, kept.1);
 }
   where
-    of_directory : Allows (d ∷ []) (directory_of was.opening) → directory_of was.opening ≡ d
-    of_directory (inl is) = is
-    of_directory (inr none) = absurd none
-
     same : directory_of was.opening ≡ d
-    same = of_directory was.allowed
+    same = only_one was.allowed
 
     epochs : All (IsOfEpoch d.epoch) (timeline_of h).entries
     epochs = subst (λ (n : ℕ). All (IsOfEpoch n) (timeline_of h).entries) (ap (λ (x : Directory). x.epoch) same) was.finds.lawful.epochs

@@ -1,9 +1,10 @@
 -- What the layers below export, over bytes alone: no history is named here.
-use Rattle.std.specs.Prelude.{◌≡◌, ◌⊎◌, ℕ, ◌*◌, List, [], ◌∷◌, ◌++◌, length, false, IsTrue, All, Contains}
+use Rattle.std.specs.Prelude.{◌≡◌, ◌⊎◌, ℕ, ◌+◌, ◌*◌, ◌<◌, List, [], ◌∷◌, ◌++◌, length, slice_index, false, Option, Some, None, IsTrue, All, Contains}
 use Rattle.disk_model.specs.Files.{overlay}
 use Rattle.disk_model.specs.World.{World, EachSince, Holds}
 use Rattle.span_algebra.specs.declared.points.Point.{Point}
 use Rattle.span_algebra.specs.declared.spans.Base.{Base}
+use Rattle.bitmap_model.specs.Granules.{is_in}
 use Rattle.bitmap_model.specs.Bitmap.{StoredBitmap}
 use Rattle.qc_layout.specs.Records.{record_of}
 use Rattle.qc_layout.specs.Room.{HasRoom}
@@ -14,6 +15,7 @@ use Rattle.image_model.specs.Backups.{Backup, Sealed}
 use Rattle.plain_model.specs.Lawful.{IsTrueEntry, IsOfEpoch, Kept}
 use Rattle.plain_model.specs.Step.{IsTorn}
 use Rattle.core_node.specs.Rest.{Directory, Mixes, marked, IsReady, IsSafe}
+use Rattle.core_node.specs.Ends.{KeepsHeader, AreInUse}
 use Rattle.core_node.specs.Files.{IsLawfulTarget}
 use Rattle.image_model.specs.Images.{IsSourceOf, IsBackupFile, IsBackupOf, is_blank}
 use Rattle.bitmap_model.specs.Bitmaps.{AreShapedEntries}
@@ -62,6 +64,10 @@ pub record MayClose (d closing : Directory) (h : History) (mixed : List (List �
 abbrev pub IsFound : List ℕ → Directory → List ℕ → List ℕ → Type 0
 IsFound id d disk file = IsInOrder id d disk file ⊎ IsInOrder id (marked d) disk file
 
+-- Besides, its header says what it said, and its bitmaps are as they were, or in use.
+abbrev pub KeepsOrMarks : List ℕ → Directory → List ℕ → Type 0
+KeepsOrMarks before d file = KeepsHeader before file × ((stored_in file ≡ d.entries) ⊎ AreInUse file)
+
 -- ---- a target
 
 -- a backup file in order that claims nothing: its record is blank, and nothing is present, or it was begun
@@ -80,6 +86,11 @@ pub record IsSealedFile (sealed : Backup) (file : List ℕ) : Type 0 where
   pub not_blank : (others : List ℕ) (other : Store) → IsBackupFile file others other → IsTrue (is_blank (record_of others).state) → ⊥
   pub reads : IsBackupOf file sealed
   pub alone : (b : Backup) → length b.content ≡ b.size → IsBackupOf file b → b ≡ sealed
+
+-- unit n isn't present, or it is and reads as these bytes
+abbrev pub HasUnit : Backup → ℕ → Option (List ℕ) → Type 0
+HasUnit b n None = is_in b.present n ≡ false
+HasUnit b n (Some bytes) = IsTrue (is_in b.present n) × ((t : ℕ) → t < length bytes → t < b.unit → slice_index b.content (n * b.unit + t) ≡ slice_index bytes t)
 
 -- ---- an event, as the core sees it
 

@@ -1,9 +1,9 @@
 //! The target of a job, as the core sees it.
 
-ghost use Rattle.std.specs.Prelude.{◌≡◌, ◌⊎◌, ◌<◌, ℕ, Bool, true, IsTrue, OnOk, OnErr};
+ghost use Rattle.std.specs.Prelude.{◌≡◌, ◌≢◌, ◌⊎◌, ◌<◌, ℕ, List, Option, Some, Bool, true, IsTrue, OnOk, OnErr};
 ghost use Rattle.disk_model.specs.World.{World, Runs, only_file, Holds, EachNow, EachSinceSync, FileFailed, IsSpared};
 ghost use Rattle.image_model.specs.Backups.{Backup};
-ghost use Rattle.core_layers.specs.Layers.{ClaimsNothing, IsSealedFile};
+ghost use Rattle.core_layers.specs.Layers.{ClaimsNothing, HasUnit, IsSealedFile};
 
 use disk_model::{Depot, Failed};
 
@@ -17,12 +17,17 @@ pub trait Target {
     /// What it knows of its file, which claims nothing.
     ghost holds: { Self → World → Type 0 };
 
+    /// What a unit of it holds, where it was copied.
+    ghost unit: { Self → ℕ → Option (List ℕ) };
+
     /// Copies a unit. A target that wasn't begun is synced, begun and synced first. Up to the first sync a crash leaves what it might have left
     /// before, and from then on a file that claims nothing. One that was begun needs no sync. Whatever it answers, it can go on.
     fn put_unit<D: Depot>(&mut self, depot: &mut D, n: u64, bytes: &[u8]) -> Result<(), Failed>
         requires given { file self.old < (D.world depot.old).given }
         ensures goes { IsTrue (D.world depot.old).tells → holds self.old (D.world depot.old) → holds self.new (D.world depot.new) }
         ensures within { IsTrue (D.world depot.old).tells → holds self.old (D.world depot.old) → EachSinceSync (D.world depot.old) (D.world depot.new) (file self.old) ClaimsNothing }
+        ensures copied { OnOk result (unit self.new n ≡ Some bytes.now) }
+        ensures others { (m : ℕ) → m ≢ n → unit self.new m ≡ unit self.old m }
         ensures done { OnOk result (begun self.new ≡ true) }
         ensures stays { begun self.old ≡ true → begun self.new ≡ true }
         ensures cause { OnErr result (FileFailed (file self.old) (D.world depot.old) (D.world depot.new)) }
@@ -44,6 +49,9 @@ pub trait Target {
         ensures cause { OnErr result (FileFailed (file self.old) (D.world depot.old) (D.world depot.new)) }
         ensures file { file self.new ≡ file self.old }
         ensures run { Runs (only_file (file self.old)) (D.world depot.old) (D.world depot.new) };
+
+    /// The backup that a seal makes has just the units that were copied, and reads as they do.
+    ghost reads: { (target : Self) (w : World) (n : ℕ) → holds target w → HasUnit (seals target w) n (unit target n) };
 
     /// Reads give a file that claims nothing.
     ghost claims: { (target : Self) (w : World) → holds target w → IsTrue w.tells → ClaimsNothing (w.seen (file target)) };

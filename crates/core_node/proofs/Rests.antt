@@ -1,6 +1,7 @@
 -- Directories that are allowed, and images that are ready or safe.
 use Rattle.std.proofs.Common.{◌≡◌, inl, inr, ℕ, List, [], ◌∷◌, ◌++◌, length, map, refl, sym, ap, subst, ◌∙◌, ◌*◌, arith}
 use Rattle.std.specs.Prelude.{Any}
+use Rattle.std.proofs.lemmas.Bool.{cases_Bool}
 use Rattle.std.proofs.lemmas.Grind.{common_steps}
 use Rattle.std.proofs.lemmas.List.{get_or_append_left}
 use Rattle.std.proofs.lemmas.List.Elements.{All-push, All-weaker}
@@ -18,6 +19,9 @@ use Rattle.plain_model.specs.Laws.{IsLikeDisk}
 use Rattle.plain_model.proofs.Histories.{length-now}
 use Rattle.plain_model.proofs.SettleLaws.{nothing_settles}
 use Rattle.image_model.specs.Images.{IsSourceOf, IsBackupFile}
+use Rattle.core_events.specs.Events.{Event, Guest, Monitor, Tick}
+use Rattle.plain_model.specs.Requests.{is_write}
+use Rattle.core_node.specs.Step.{kept_during}
 use Rattle.core_node.specs.Rest.{Directory, Allows, marked, or_marked, IsReady, IsSafe, Mixes}
 
 -- ---- directories that are allowed
@@ -63,6 +67,16 @@ kept_more disks other disk long kept = record {
   long = All-push (λ d. length disk ≡ length d) disks other kept.long long;
   kept = λ k below. any_more (λ d. sector d k ≡ sector disk k) disks other (kept.kept k below);
 }
+
+-- an event may mix in one disk more
+pub kept_in_event : (disks : List (List ℕ)) (event : Event) (other disk : List ℕ) → length disk ≡ length other → Kept disks disk
+    → Kept (kept_during disks event other) disk
+kept_in_event disks (Guest r) other disk long kept = elim (cases_Bool (is_write r.work)) [
+  | inl e ↦ rw e (kept_more disks other disk long kept)
+  | inr e ↦ rw e kept
+]
+kept_in_event disks (Monitor c) other disk long kept = kept
+kept_in_event disks Tick other disk long kept = kept
 
 -- the disk now is one that a crash may leave
 pub mixes_keep : {h : History} {disks : List (List ℕ)} → IsHistory h → Mixes h disks → Kept disks (now h)

@@ -1,5 +1,5 @@
 -- A file is one source: one id, one epoch, and one set of clusters with one room; and what is owned in one without a directory of bitmaps.
-use Rattle.std.proofs.Common.{◌≡◌, ℕ, ◌<◌, List, [], ◌++◌, length, Bool, false, Option, None, Result, Ok, Err, refl, sym, ap, ◌∙◌, arith}
+use Rattle.std.proofs.Common.{◌≡◌, ℕ, ◌-◌, ◌^◌, ◌<◌, List, [], ◌++◌, length, Bool, false, Option, Some, None, Result, Ok, Err, refl, sym, ap, ◌∙◌, arith}
 use Rattle.std.specs.Prelude.{get_or}
 use Rattle.std.proofs.lemmas.List.FromFn.{fill_by_all}
 use Rattle.bitmap_model.specs.Granules.{granules_in, is_in}
@@ -19,11 +19,14 @@ use Rattle.qc_layout.specs.Room.{HasRoom, room_from}
 use Rattle.qc_layout.specs.Room.{TablesPass}
 use Rattle.qc_layout.specs.Directory.{directory_in, directory_fault}
 use Rattle.qc_layout.specs.Owners.{Owner, Image, Bitmaps, Owns, Counted}
-use Rattle.qc_layout.specs.Laws.{StoresNothing}
+use Rattle.qc_layout.specs.Laws.{StoresNothing, LoadingIsExact}
+use Rattle.qc_layout.specs.Loading.{LoadFault, image_fault}
 use Rattle.qc_layout.proofs.Directories.{stores_nothing}
-use Rattle.qc_layout.proofs.HeaderLaws.{one_in}
+use Rattle.qc_layout.proofs.HeaderLaws.{one_in, fault_or_header}
 use Rattle.image_model.specs.Space.{Store, Kind, Hole, kind_at, entries_in}
 use Rattle.image_model.specs.Images.{IsSourceOf, HasClusters, IsKind, IsThere}
+use Rattle.image_model.specs.Refusals.{FileFault, Header as Faulty, NotTarget, Record, NotAdopted, EpochSpent, Clusters, Bitmaps, IsSourceFault}
+use Rattle.core_node.specs.Laws.{RefusedIsNotReady}
 
 own_id : Own → List ℕ
 own_id owns.Absent = []
@@ -96,6 +99,42 @@ one_room file a b x y =
     let high = y.is_next.least x.next x.is_next.free in
     let same : x.next ≡ y.next = omega (arith, low, high) in
     x.count ∙ ap (λ (n : ℕ). room_from file n) same ∙ sym y.count
+
+-- ---- faults
+
+said_own : {file disk id : List ℕ} {epoch : ℕ} {store : Store} {h : Header} → Spells parts.Source file h
+    → (x : IsSourceOf file disk id epoch store) → h.own ≡ owns.Source id epoch x.spans_offset x.spans_length
+said_own {file} s x =
+    let same = one_in file s.extensions x.spelled.extensions s.listed x.spelled.listed in
+    s.own ∙ ap (λ es. own_in file (first_of_kind own_kind es)) same ∙ sym x.spelled.own ∙ x.own
+
+loads : LoadingIsExact → {file disk id : List ℕ} {epoch : ℕ} {store : Store} {fault : LoadFault} → IsSourceOf file disk id epoch store
+    → image_fault file ≡ Some fault → ⊥
+loads exact {file} {fault = fault} x is =
+    differ fault (sym ((exact file x.header x.spelled).1 (record { passes = x.passes; directory = x.directory; counted = x.counted })) ∙ is)
+  where
+    differ : (fault : LoadFault) → None ≡ Some fault → ⊥
+    differ fault is = absurd (cc)
+
+-- where loading is exact, a source has no fault but that its last epoch is used
+pub source_fault : LoadingIsExact → {file disk id : List ℕ} {epoch : ℕ} {store : Store} → IsSourceOf file disk id epoch store
+    → (fault : FileFault) → IsSourceFault file fault → (fault ≡ EpochSpent) × (epoch ≡ 2 ^ 64 - 1)
+unfolding own_epoch
+source_fault exact {file} source (Faulty fault) is = absurd (fault_or_header parts.Source file source.header fault source.spelled is)
+source_fault exact source NotTarget is = absurd is
+source_fault exact source (Record fault) is = absurd is
+source_fault exact {id = id} {epoch = epoch} source NotAdopted (h, spelled, own) =
+    absurd (adopted id epoch source.spans_offset source.spans_length (sym (said_own spelled source) ∙ own))
+  where
+    adopted : (id : List ℕ) (a b c : ℕ) → owns.Source id a b c ≡ owns.Absent → ⊥
+    adopted id a b c is = absurd (cc)
+source_fault exact source EpochSpent (h, id, offset, size, spelled, own) = (refl, ap own_epoch (sym (said_own spelled source) ∙ own))
+source_fault exact source (Clusters fault) (left, is) = absurd (loads exact source is)
+source_fault exact source (Bitmaps refused) (left, is) = absurd (loads exact source is)
+
+-- so an image that is refused isn't ready for any history, unless its last epoch is used
+pub refused_is_not_ready : LoadingIsExact → RefusedIsNotReady
+refused_is_not_ready exact allows id h file fault is ready = (source_fault exact ready.finds.source fault is).0
 
 -- ---- without a directory of bitmaps
 

@@ -17,9 +17,10 @@ use Rattle.plain_model.specs.Records.{StateHolds}
 use Rattle.image_model.specs.Backups.{Backup, Sealed}
 use Rattle.core_node.specs.Files.{Reading, IsLawfulTarget}
 use Rattle.image_model.specs.Images.{IsSourceOf, IsBackupFile, IsBackupOf}
+use Rattle.image_model.specs.Refusals.{FileFault, EpochSpent, IsSourceFault}
 use Rattle.core_node.specs.Standing.{Shown}
 use Rattle.core_node.specs.Rest.{Directory, State, Allows, unused, IsReady, IsSafe}
-use Rattle.core_node.specs.Step.{NodeSteps, EndsAtSeal}
+use Rattle.core_node.specs.Step.{NodeSteps, IsSealOf}
 use Rattle.core_node.specs.Ends.{Opened, Closed}
 
 -- ---- files
@@ -32,6 +33,10 @@ OneKind = (file disk id bytes : List ℕ) (epoch : ℕ) (store other : Store) �
 abbrev pub DroppedIsNotSafe : Type 0
 DroppedIsNotSafe = (allows : List Directory) (id : List ℕ) (h : History) (disks : List (List ℕ)) (file : List ℕ) (e : StoredBitmap)
     → ((d : Directory) → Allows allows d → Contains d.entries e) → (Contains (stored_in file) e → ⊥) → IsSafe allows id h disks file → ⊥
+
+-- an image that is refused isn't ready for any history, unless its last epoch is used
+abbrev pub RefusedIsNotReady : Type 0
+RefusedIsNotReady = (allows : List Directory) (id : List ℕ) (h : History) (file : List ℕ) (fault : FileFault) → IsSourceFault file fault → IsReady allows id h file → fault ≡ EpochSpent
 
 -- ---- openings
 
@@ -85,7 +90,7 @@ SealsAreTrue {Core} reading shown keeps = (before after : Core) (old new : World
 abbrev pub SealsComeAtEnds : {Core : Type 0} → Reading → (Core → Shown) → (Core → World → State → Type 0) → Type 0
 SealsComeAtEnds {Core} reading shown keeps = (before after : Core) (old new : World) (event : Event) (answer : Answer) (s : State) (f : ℕ) (b : Backup) (base : Base) (p : Point)
     → NodeSteps reading (shown before) (keeps before old) (keeps after new) old new event answer → keeps before old s → b.state ≡ Sealed base p
-    → IsBackupOf (new.seen f) b → (IsBackupOf (old.seen f) b → ⊥) → EndsAtSeal new s.machine answer f
+    → IsBackupOf (new.seen f) b → (IsBackupOf (old.seen f) b → ⊥) → IsSealOf (shown before).id s.machine new answer f (new.seen f)
 
 -- ---- closings
 

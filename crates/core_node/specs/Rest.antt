@@ -1,5 +1,4 @@
 -- What each crash may leave of the source and of the backup files, for a history; and when files are at rest, between two sessions.
--- `stored` stands for what the bitmaps' directory of a file's bytes gives, with its marks of use: one function of the bytes.
 use Rattle.std.specs.Prelude.{◌≡◌, ◌⊎◌, ℕ, ◌+◌, List, [], ◌∷◌, ◌++◌, map, false, Option, Some, IsTrue, All, Contains}
 use Rattle.disk_model.specs.World.{World, Holds, Leads}
 use Rattle.span_algebra.specs.declared.points.Point.{Point}
@@ -33,7 +32,7 @@ Allows (x ∷ allows) d = (d ≡ x) ⊎ Allows allows d
 abbrev pub directory_of : Opening → Directory
 directory_of o = record { epoch = o.epoch; entries = o.entries }
 
--- what an opening makes of it: the next epoch, with all bitmaps in use
+-- what an opening makes of it: the next epoch, with all bitmaps in use, so that of each a name and a granularity alone can be read
 abbrev pub unused : StoredBitmap → StoredBitmap
 unused e = record { name = e.name; bits = cleared e.bits; span = Unknown; recording = false; trusted = false }
 
@@ -46,8 +45,8 @@ or_marked allows = allows ++ map marked allows
 
 -- ---- one file
 
--- What an opening finds in the image, where it stands for the disk of this history: its epoch, its clusters and their room. What it
--- takes and gives back is not looked at. Its stored bitmaps are tied to the file by the directory's own layer.
+-- What an opening finds in the image, where it stands for the disk of this history: its epoch, its clusters and their room, and bitmaps that
+-- are true of the history. What it takes and gives back is not looked at, and `IsReady` ties the bitmaps to the file.
 pub record FindsOpening (file id : List ℕ) (h : History) (o : Opening) : Type 0 where
   pub source : IsSourceOf file (now h) id o.epoch o.store
   pub room : HasRoom file o.store.room

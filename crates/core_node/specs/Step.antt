@@ -1,5 +1,5 @@
 -- What one event does to a core that knows of its files, for each state of the plain machine for which it stands.
-use Rattle.std.specs.Prelude.{◌≡◌, ◌⊎◌, ℕ, ◌+◌, ◌-◌, ◌^◌, ◌<◌, ◌≤◌, List, [], ◌∷◌, ◌++◌, map, Bool, true, false, Option, Some, None, IsTrue, Contains, if◌then◌else◌}
+use Rattle.std.specs.Prelude.{◌≡◌, ◌⊎◌, ℕ, ◌+◌, ◌-◌, ◌^◌, ◌<◌, ◌≤◌, List, [], ◌∷◌, ◌++◌, length, map, Bool, true, false, Option, Some, None, IsTrue, Contains, if◌then◌else◌}
 use Rattle.disk_model.specs.Files.{byte, reading}
 use Rattle.disk_model.specs.World.{World, EachNow, EachSince, Leads}
 use Rattle.span_algebra.specs.declared.points.Point.{Point}
@@ -12,10 +12,11 @@ use Rattle.qc_layout.specs.declared.header.Header.{Header}
 use Rattle.qc_layout.specs.declared.header.Own.TheVariants as owns
 use Rattle.qc_layout.specs.declared.header.Part.TheVariants as parts
 use Rattle.qc_layout.specs.Spelling.{IsHeaderOf}
+use Rattle.qc_layout.specs.Disks.{bits_of}
 use Rattle.plain_model.specs.History.{now}
 use Rattle.image_model.specs.Space.{Store}
 use Rattle.plain_model.specs.Machine.{Machine, size_of}
-use Rattle.plain_model.specs.Jobs.{Job, completion}
+use Rattle.plain_model.specs.Jobs.{Job, next_unit, completion}
 use Rattle.plain_model.specs.Requests.{is_write, denial}
 use Rattle.plain_model.specs.Actions.{Held}
 use Rattle.plain_model.specs.Outcome.{Trouble, numbered, outcome}
@@ -101,21 +102,27 @@ SealedIn w id m j (Some f) = (content : List ℕ) × IsBackupOf (w.seen f) (seal
 abbrev pub NoNewBlanks : World → World → Type 0
 NoNewBlanks old new = (f size : ℕ) (store : Store) → IsTargetOf (new.seen f) true size store → (others : ℕ) × (other : Store) × IsTargetOf (old.seen f) true others other
 
--- The job into this file ended in the event, as it completed or as a call of its seal failed: only so is a target sealed. For want of room, with the source or by a
--- command none is.
-abbrev pub EndsAtSeal : World → Machine → Answer → ℕ → Type 0
-EndsAtSeal w m answer f = (j : Job) × Contains m.jobs j × (w.found j.target ≡ Some f)
-    × (Contains answer.notices (completion (size_of m) None j) ⊎ Contains answer.notices (completion (size_of m) (Some Failed) j))
+-- The job into this file ended in the event when nothing was missing, as it completed or as a call of its seal failed, and these bytes are the backup that its seal
+-- makes. Only so is a target sealed: for want of room, with the source or by a command none is.
+pub record IsSealOf (id : List ℕ) (m : Machine) (w : World) (answer : Answer) (f : ℕ) (file : List ℕ) : Type 0 where
+  pub job : Job
+  pub among : Contains m.jobs job
+  pub target : w.found job.target ≡ Some f
+  pub whole : next_unit job ≡ None
+  pub ended : Contains answer.notices (completion (size_of m) None job) ⊎ Contains answer.notices (completion (size_of m) (Some Failed) job)
+  pub content : List ℕ
+  pub is : IsBackupOf file (sealed_by id (size_of m) content job)
+  pub holds : HoldsCopies m.history job job.copied content
 
--- ---- first sectors
+-- ---- first clusters
 
--- the file has this first sector
+-- the file begins with these bytes
 abbrev pub HasHead : List ℕ → List ℕ → Type 0
-HasHead sector file = reading file 0 512 ≡ sector
+HasHead start file = reading file 0 (length start) ≡ start
 
--- it has this one, but for the record's 64 bytes at this place
+-- it does, but for the record's 64 bytes at this place
 abbrev pub HasHeadBut : ℕ → List ℕ → List ℕ → Type 0
-HasHeadBut at sector file = (i : ℕ) → i < 512 → (i < at) ⊎ (at + 64 ≤ i) → byte file i ≡ byte sector i
+HasHeadBut at start file = (i : ℕ) → i < length start → (i < at) ⊎ (at + 64 ≤ i) → byte file i ≡ byte start i
 
 -- the file is a target, and its record stands at this place
 abbrev pub HasRecordAt : ℕ → List ℕ → Type 0
@@ -141,15 +148,19 @@ pub record Goes (held : List ℕ → Held) (rise : Rise) (t : Trouble) (store : 
       (λ c. IsLawfulTarget before.id s.machine.history c × (IsTrue (may_land event) → IsLawfulTarget before.id (next_of held t event answer store freed s).machine.history c))
       (IsLawfulTarget before.id (next_of held t event answer store freed s).machine.history) (IsLawfulTarget before.id (next_of held t event answer store freed s).machine.history) old new
   pub blanks : (s : State) → keeps s → NoNewBlanks old new
-  -- the source keeps its first sector, as reads give it and in each crash; a target keeps what of its own isn't its record
-  pub source_head : (s : State) (sector : List ℕ) → keeps s → Leads before.file (HasHead sector) (HasHead sector) (HasHead sector) (HasHead sector) (HasHead sector) old new
-  pub target_heads : (s : State) (f at : ℕ) (sector : List ℕ) → keeps s → HasRecordAt at (old.seen f)
-      → Leads f (HasHeadBut at sector) (HasHeadBut at sector) (HasHeadBut at sector) (HasHeadBut at sector) (HasHeadBut at sector) old new
+  -- the source keeps its first cluster, as reads give it and in each crash; a target keeps what of its own isn't its record
+  pub source_head : (s : State) (start : List ℕ) → keeps s → length start ≤ s.machine.store.cluster
+      → Leads before.file (HasHead start) (HasHead start) (HasHead start) (HasHead start) (HasHead start) old new
+  pub target_heads : (s : State) (f at : ℕ) (start : List ℕ) → keeps s → HasRecordAt at (old.seen f) → length start ≤ 2 ^ bits_of (old.seen f)
+      → Leads f (HasHeadBut at start) (HasHeadBut at start) (HasHeadBut at start) (HasHeadBut at start) (HasHeadBut at start) old new
   -- a job that completed has sealed its target
   pub sealed : (s : State) (j : Job) → keeps s → Contains s.machine.jobs j → Contains answer.notices (completion (size_of s.machine) None j)
       → SealedIn new before.id s.machine j (new.found j.target)
-  -- a file that reads as sealed was so before, or a job ended at its seal
-  pub seals : (s : State) (f : ℕ) (b : Backup) (base : Base) (p : Point) → keeps s → b.state ≡ Sealed base p → IsBackupOf (new.seen f) b → IsBackupOf (old.seen f) b ⊎ EndsAtSeal new s.machine answer f
+  -- a file that reads as sealed was so before, or its job's seal made it; and a crash leaves one so only where one might have left it so before, or a seal made it
+  pub seals : (s : State) (f : ℕ) (b : Backup) (base : Base) (p : Point) → keeps s → b.state ≡ Sealed base p → IsBackupOf (new.seen f) b
+      → IsBackupOf (old.seen f) b ⊎ IsSealOf before.id s.machine new answer f (new.seen f)
+  pub sealing : (s : State) (f : ℕ) (b : Backup) (base : Base) (p : Point) → keeps s → b.state ≡ Sealed base p → EachNow old f (λ c. IsBackupOf c b → ⊥)
+      → EachSince new old.now f (λ c. IsBackupOf c b → IsSealOf before.id s.machine new answer f c)
   -- and what is sealed stays so, as reads give it and in each crash
   pub stays : (s : State) (f : ℕ) (b : Backup) (base : Base) (p : Point) → keeps s → b.state ≡ Sealed base p
       → Leads f (λ c. IsBackupOf c b) (λ c. IsBackupOf c b) (λ c. IsBackupOf c b) (λ c. IsBackupOf c b) (λ c. IsBackupOf c b) old new

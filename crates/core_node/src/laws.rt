@@ -1,6 +1,6 @@
 //! Laws of the promises: what they refuse. Each function does nothing; its contract is the law.
 
-ghost use Rattle.core_node.specs.Laws.{OneKind, DroppedIsNotSafe, OpenedShowsId, OpenedHasBitmaps, OpenedHasRoom, OpenedKnows, StepsKnow, SealsAreTrue, SealsComeAtEnds, ClosedStoresBitmaps, ClosedKeepsBitmaps};
+ghost use Rattle.core_node.specs.Laws.{OneKind, DroppedIsNotSafe, RefusedIsNotReady, OpenedShowsId, OpenedHasBitmaps, OpenedHasRoom, OpenedKnows, StepsKnow, SealsAreTrue, SealsComeAtEnds, ClosedStoresBitmaps, ClosedKeepsBitmaps};
 
 use crate::node::Node;
 
@@ -12,6 +12,11 @@ pub fn one_kind()
 /// What dropped a stored bitmap isn't safe.
 pub fn dropped_is_not_safe()
     ensures { DroppedIsNotSafe }
+{}
+
+/// An image that is refused isn't ready for any history, unless its last epoch is used.
+pub fn refused_is_not_ready()
+    ensures { RefusedIsNotReady }
 {}
 
 /// An opening that shows another id isn't one.
