@@ -11,7 +11,6 @@ use Rattle.span_algebra.specs.declared.points.Point.{Point}
 use Rattle.span_algebra.specs.declared.spans.Base.TheVariants.{Whole, Since}
 use Rattle.span_algebra.specs.Timelines.{stands}
 use Rattle.bitmap_model.specs.Bitmap.{StoredBitmap}
-use Rattle.core_events.specs.Events.{Event}
 use Rattle.core_events.specs.Answers.{Answer}
 use Rattle.plain_model.specs.History.{History, IsHistory, now, timeline_of}
 use Rattle.plain_model.specs.Machine.{Opening, opened}
@@ -24,7 +23,8 @@ use Rattle.plain_model.proofs.ChainLaws.{chain_gives}
 use Rattle.core_loop.specs.declared.session.Stop.{Stop}
 use Rattle.core_node.specs.Rest.{Directory, Files, State, or_marked, in_closing, first_state, IsReady, IsSafe, AreLawful, LeftLawful, LeftIn}
 use Rattle.core_node.specs.Files.{IsLawfulTarget, Reading}
-use Rattle.core_loop.specs.Course.{Given, IsWithin, Cut, Move, AreMoves, last_cut, LeftAt, StageAt}
+use Rattle.core_node.specs.Standing.{Shown}
+use Rattle.core_loop.specs.Course.{Given, Heard, IsWithin, Cut, Move, AreMoves, last_cut, LeftAt, StageAt}
 use Rattle.core_loop.specs.Sessions.{Session, start_cut}
 use Rattle.core_loop.specs.Crashes.{IsLeftBackup, ChainsGiveDisks, SettlesLeft, WereThere, Survives}
 
@@ -158,12 +158,12 @@ pub record Stage (files : Files) (k : ℕ) (left : ℕ → Option (List ℕ)) (f
   pub history_is : IsHistory state.machine.history
   pub lawful : LeftIn files state left
 
-module _ (reading : Reading) (text : ℕ → Event → Answer → List ℕ) (files : Files) (name : List ℕ) where
+module _ (reading : Reading) (own : ℕ → Type 0) (files : Files) (name : List ℕ) where
   within_history : (from : Cut) (move : Move) (s : State) → IsHistory from.state.machine.history → IsHistory move.cut.state.machine.history → IsWithin from move s → IsHistory s.machine.history
   within_history from move s before after (inl is) = subst (λ (x : State). IsHistory x.machine.history) (sym is) before
   within_history from move s before after (inr is) = subst (λ (x : State). IsHistory x.machine.history) (sym is.1) after
 
-  stage_of : (k : ℕ) (left : ℕ → Option (List ℕ)) (from : Cut) (moves : List Move) → IsHistory from.state.machine.history → AreMoves reading text name from moves
+  stage_of : (k : ℕ) (left : ℕ → Option (List ℕ)) (from : Cut) (moves : List Move) → IsHistory from.state.machine.history → AreMoves reading own name from moves
       → LeftAt files k left from moves → Stage files k left from moves
   stage_of k left from [] history steps lawful = record { state = from.state; counts = refl; history_is = history; lawful = lawful }
   stage_of k left from (move ∷ moves) history steps (inl here) =
@@ -172,7 +172,8 @@ module _ (reading : Reading) (text : ℕ → Event → Answer → List ℕ) (fil
       let rest = stage_of k left move.cut moves steps.0.history_is steps.1 later.1 in
       record { state = rest.state; counts = inr (later.0, rest.counts); history_is = rest.history_is; lawful = rest.lawful }
 
-  last_history : (from : Cut) (moves : List Move) → IsHistory from.state.machine.history → AreMoves reading text name from moves → IsHistory (last_cut from moves).state.machine.history
+  last_history : (from : Cut) (moves : List Move) → IsHistory from.state.machine.history → AreMoves reading own name from moves
+      → IsHistory (last_cut from moves).state.machine.history
   last_history from [] history steps = history
   last_history from (move ∷ moves) history steps = last_history move.cut moves steps.0.history_is steps.1
 
@@ -183,18 +184,21 @@ found_left {w} {k} {left} f is some = by_cases (left f) refl
     by_cases None none = absurd (left_there is some none)
     by_cases (Some c) is = (c, is)
 
-history_opened : (h : History) (o : Opening) (c : Cut) (w : World) → c ≡ start_cut (first_state h o) w → IsHistory h → IsHistory c.state.machine.history
+history_opened : (h : History) (o : Opening) (c : Cut) (shown : Shown) (w : World) → c ≡ start_cut (first_state h o) shown w → IsHistory h
+    → IsHistory c.state.machine.history
 unfolding opened
-history_opened h o c w is history = subst (λ (x : Cut). IsHistory x.state.machine.history) (sym is) history
+history_opened h o c shown w is history = subst (λ (x : Cut). IsHistory x.state.machine.history) (sym is) history
 
-module _ {T : Type 0} {reading : Reading} {text : ℕ → Event → Answer → List ℕ} {allows : List Directory} {files : Files} {name : List ℕ} {h : History} {disks : List (List ℕ)} {result : Result T Stop} {over : List ℕ → Type 0} {given : List Given} {answer : Answer} {old new : World} where
-  pub survives : (session : Session reading text allows files name h disks result over given answer old new) → IsHistory h → ((f : ℕ) → Contains files.backups f → f ≡ files.source → ⊥) → {parts : Parts} → Runs parts old new → WereThere files old
+module _ {T : Type 0} {reading : Reading} {own : ℕ → Type 0} {allows : List Directory} {files : Files} {name : List ℕ} {h : History} {disks : List (List ℕ)}
+    {result : Result T Stop} {closes : Bool} {over : List ℕ → Type 0} {told : List Heard → Type 0} {given : List Given} {answer : Answer} {old new : World} where
+  pub survives : (session : Session reading own allows files name h disks result closes over told given answer old new) → IsHistory h
+      → ((f : ℕ) → Contains files.backups f → f ≡ files.source → ⊥) → {parts : Parts} → Runs parts old new → WereThere files old
       → (k : ℕ) (left : ℕ → Option (List ℕ)) → old.now ≤ k → k ≤ new.now → IsLeftAt new k left → Survives k left session
   survives (inl none) history apart run were k left low high is =
       settles_left history apart (λ f which. found_left f is (run.goes.lasts k f low high (were f which))) (none.crashes k left low high is)
   survives (inr b) history apart run were k left low high is =
       let there : (f : ℕ) → (f ≡ files.source) ⊎ Contains files.backups f → (c : List ℕ) × (left f ≡ Some c) = λ f which. found_left f is (run.goes.lasts k f low high (were f which)) in
-      let begins = history_opened h _ b.first b.begun b.first_is history in
+      let begins = history_opened h _ b.first b.shown b.begun b.first_is history in
       by_moment there begins (b.crashes k left low high is)
     where
       by_moment : ((f : ℕ) → (f ≡ files.source) ⊎ Contains files.backups f → (c : List ℕ) × (left f ≡ Some c)) → IsHistory b.first.state.machine.history
@@ -204,11 +208,13 @@ module _ {T : Type 0} {reading : Reading} {text : ℕ → Event → Answer → L
           → Survives k left (inr b)
       by_moment there begins (inl here) = inl (here.0, settles_left history apart there here.1)
       by_moment there begins (inr (inl here)) =
-          let stage = stage_of reading text files name k left b.first b.moves begins b.steps here.2 in
+          let stage = stage_of reading own files name k left b.first b.moves begins b.steps here.2 in
           inr (inl (here.0, here.1, record { state = stage.state; counts = stage.counts; settles = settles_left stage.history_is apart there stage.lawful }))
-      by_moment there begins (inr (inr here)) = inr (inr (here.0, settles_left (last_history reading text files name b.first b.moves begins b.steps) apart there here.1))
+      by_moment there begins (inr (inr here)) = inr
+          (inr (here.0, settles_left (last_history reading own files name b.first b.moves begins b.steps) apart there here.1))
 
-  pub with_crashes : Session reading text allows files name h disks result over given answer old new → AreLawful allows files h disks old → {parts : Parts} → Runs parts old new
-      → (session : Session reading text allows files name h disks result over given answer old new)
+  pub with_crashes : Session reading own allows files name h disks result closes over told given answer old new → AreLawful allows files h disks old
+      → {parts : Parts} → Runs parts old new
+      → (session : Session reading own allows files name h disks result closes over told given answer old new)
       × (WereThere files old → (k : ℕ) (left : ℕ → Option (List ℕ)) → old.now ≤ k → k ≤ new.now → IsLeftAt new k left → Survives k left session)
   with_crashes session lawful run = (session, survives session lawful.history_is lawful.apart run)

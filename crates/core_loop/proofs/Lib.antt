@@ -1,3 +1,4 @@
+pub mod Apart
 pub mod Courses
 pub mod Going
 pub mod Looping

@@ -1,24 +1,23 @@
 -- What an opening leaves.
-use Rattle.std.proofs.Common.{◌≡◌, ◌⊎◌, ⊎_elim, ℕ, ◌*◌, ◌≤◌, List, [], ◌∷◌, length, map, true, IsTrue, Option, Some, inl, refl, sym, subst, ◌∙◌, arith}
+use Rattle.std.proofs.Common.{◌≡◌, ◌⊎◌, ⊎_elim, ℕ, ◌*◌, ◌≤◌, List, [], ◌∷◌, length, map, IsTrue, Option, inl, refl, sym, subst, ◌∙◌, arith}
 use Rattle.std.proofs.lemmas.List.Elements.{All-nil, All-cons, All-contains}
 use Rattle.disk_model.specs.World.{World, Runs, only_file, IsLeftAt, Holds, EachNow, EachSince}
 use Rattle.disk_model.proofs.Leads.{spare_leads}
-use Rattle.disk_model.proofs.Moments.{Within, since_more, since_sync, now_more, now_since}
-use Rattle.bitmap_model.specs.Bitmap.{StoredBitmap}
+use Rattle.disk_model.proofs.Moments.{since_more, since_sync, now_more, now_since}
 use Rattle.core_events.specs.Events.{Event}
 use Rattle.plain_model.specs.History.{History, IsHistory, now}
 use Rattle.plain_model.specs.Machine.{opened}
 use Rattle.plain_model.specs.Laws.{IsLikeDisk}
 use Rattle.plain_model.proofs.Histories.{length-now}
 use Rattle.core_node.specs.Files.{IsLawfulTarget}
-use Rattle.image_model.specs.Images.{IsBackupOf, IsTargetOf}
+use Rattle.image_model.specs.Images.{IsBackupFile}
 use Rattle.core_node.specs.Standing.{Shown}
 use Rattle.core_node.specs.Rest.{Directory, Files, Allows, Mixes, directory_of, marked, or_marked, first_state, IsReady, IsSafe, AreLawful, LeftLawful, StaysSealed}
 use Rattle.core_node.specs.Step.{NoNewBlanks}
-use Rattle.core_node.specs.Ends.{NodeBegins, Opened, OpensWithin}
+use Rattle.core_node.specs.Ends.{NodeBegins, OpensWithin, IsOpening}
 use Rattle.core_node.proofs.Rests.{Sub, allows_left, allows_found, ready_more, safe_more, one_kind, ready_is_safe, mixes_keep}
-use Rattle.core_loop.specs.Course.{any_call}
-use Rattle.core_loop.specs.Sessions.{Starts, Covers}
+use Rattle.core_loop.specs.Sessions.{Starts, Covers, IsNoBackup, AreApart}
+use Rattle.core_loop.proofs.Apart.{stays_beside, blanks_beside, apart_on}
 use Rattle.core_loop.proofs.Going.{Knows, left_since}
 
 -- ---- from rest to rest
@@ -28,16 +27,17 @@ pub opening_leads : {allows : List Directory} {d : Directory} {id : List ℕ} {h
     → Allows allows d → EachNow old f (IsSafe allows id h disks) → OpensWithin f d id h old new
     → EachSince new old.now f (IsSafe (or_marked allows) id h disks) × Holds f (IsReady (or_marked allows) id h) (IsSafe (or_marked allows) id h disks) new
 opening_leads {allows} {d} {id} {h} {disks} f {old} {new} later history mixes there safe within =
-    (since, record { seen = λ told. ready_more found within.seen; each = now_since new old.now f (IsSafe (or_marked allows) id h disks) later since })
+    (since, record { seen = λ told. ready_more found within.seen.0; each = now_since new old.now f (IsSafe (or_marked allows) id h disks) later since })
   where
     found : Sub (d ∷ marked d ∷ []) (or_marked allows)
     found other is = allows_found allows d other there is
 
     since : EachSince new old.now f (IsSafe (or_marked allows) id h disks)
-    since = since_more new old.now f (λ c. IsSafe allows id h disks c ⊎ IsReady (d ∷ marked d ∷ []) id h c) (IsSafe (or_marked allows) id h disks)
+    since = since_more new old.now f (λ c. IsSafe allows id h disks c ⊎ IsOpening (old.seen f) d id h c) (IsSafe (or_marked allows) id h disks)
         (λ c was. ⊎_elim (λ (is : IsSafe allows id h disks c). safe_more (λ x known. allows_left allows (map marked allows) x known) is)
-        (λ (ready : IsReady (d ∷ marked d ∷ []) id h c). ready_is_safe history (All-contains (IsLikeDisk h) disks (now h) mixes.alike mixes.among).whole (mixes_keep history mixes) (ready_more found ready)) was)
-        (since_sync (IsSafe allows id h disks) (IsReady (d ∷ marked d ∷ []) id h) safe within.since)
+        (λ (opening : IsOpening (old.seen f) d id h c). ready_is_safe history (All-contains (IsLikeDisk h) disks (now h) mixes.alike mixes.among).whole
+        (mixes_keep history mixes) (ready_more found opening.0)) was)
+        (since_sync (IsSafe allows id h disks) (IsOpening (old.seen f) d id h) safe within.since)
 
 -- a new source is at rest for its own history
 pub source_begins : {allows : List Directory} (id : List ℕ) {h : History} (f : ℕ) {new : World} → IsHistory h → (n : ℕ) × (length (now h) ≡ n * 512) → Holds f (IsReady allows id h) (IsReady allows id h) new
@@ -56,22 +56,28 @@ source_begins {allows} id {h} f {new} history whole made = record {
 
 -- ---- calls on the source alone
 
--- one that is ready is no backup, so these calls keep what is sealed, and make no blank target
+-- the file of one that is ready is no backup
+no_backup : {allows : List Directory} {id : List ℕ} {h : History} {file : ℕ} (w : World) → IsReady allows id h (w.seen file) → (g : ℕ) → g ≡ file
+    → IsNoBackup (w.seen g)
+no_backup w ready g same bytes store is = one_kind ready.finds.source (subst (λ (x : ℕ). IsBackupFile (w.seen x) bytes store) same is)
+
+-- so these calls keep what is sealed, make no blank target, and leave files apart
 module _ {allows : List Directory} {id : List ℕ} {h : History} {file : ℕ} {old new : World} (run : Runs (only_file file) old new) where
   pub source_stays : IsTrue old.tells → IsReady allows id h (old.seen file) → StaysSealed old new
-  source_stays told ready f b base p sealed = record {
-    since = λ holds. (spare_leads f _ _ run (other (holds.seen told))).since holds;
-    after = λ holds. (spare_leads f _ _ run (other (holds.seen told))).after holds;
-  }
-    where
-      other : {g : ℕ} → IsBackupOf (old.seen g) b → g ≡ file → ⊥
-      other is same = one_kind ready.finds.source (subst (λ (x : ℕ). IsBackupOf (old.seen x) b) same is).in_order
+  source_stays told ready = stays_beside run told (no_backup old ready)
 
   pub source_blanks : IsReady allows id h (new.seen file) → NoNewBlanks old new
-  source_blanks ready f size store target = (size, store, subst (λ (c : List ℕ). IsTargetOf c true size store) (run.files f other).seen target)
-    where
-      other : f ≡ file → ⊥
-      other same = one_kind ready.finds.source (subst (λ (x : ℕ). IsTargetOf (new.seen x) true size store) same target).in_order
+  source_blanks ready = blanks_beside run (no_backup new ready)
+
+pub source_apart : {own : ℕ → Type 0} {file : ℕ} {old new : World} → Runs (only_file file) old new → AreApart own file old → AreApart own file new
+source_apart {own} run apart = apart_on run (λ g mine same. apart.source_isnt (subst own same mine)) apart
+
+-- files that events may begin anew stay among those that are spoken of
+pub covers_on : (files : Files) (events : List Event) (old new : World) → Covers files events old → NoNewBlanks old new
+    → ((name : List ℕ) → new.found name ≡ old.found name) → Covers files events new
+covers_on files events old new covers blanks found event name f size store there starts is target =
+    let was = blanks f size store target in
+    covers event name f was.0 was.1 there starts (sym (found name) ∙ is) was.2
 
 -- ---- an opening, whatever it answered
 
@@ -109,29 +115,20 @@ module _ {allows : List Directory} {files : Files} {h : History} {disks : List (
   pub open_stays : StaysSealed old new
   open_stays = source_stays call.run told (lawful.source.seen told)
 
+  pub open_blanks : NoNewBlanks old new
+  open_blanks = source_blanks call.run opens_within.2.seen.0
+
   -- where a node begins, a run of events may start
   pub may_start : {shown : Shown} {K : Knows} {events : List Event} → shown.file ≡ files.source → (begins : NodeBegins allows shown K files.source files.id h old new) → Covers files events old
       → Starts files shown K events (first_state h (record begins.opening { taken = begins.taken; given = begins.given })) new
   unfolding opened
-  may_start file_is begins covers = record {
+  may_start {events = events} file_is begins covers = record {
     file_is = sym file_is;
     id_is = sym begins.id_is;
     keeps = begins.keeps_it;
     backups = λ f named. (spare_leads f _ _ call.run (lawful.apart f named)).after (lawful.backups f named);
-    covers = λ event name f size store there starts is target.
-        let was = source_blanks call.run opens_within.2.seen f size store target in
-        covers event name f was.0 was.1 there starts (sym (call.run.found name (λ none. none)) ∙ is) was.2;
+    covers = covers_on files events old new covers open_blanks (λ name. call.run.found name (λ none. none));
   }
-
--- where it answered Ok, a session begins
-pub node_begins : {allows : List Directory} {files : Files} {h : History} {disks : List (List ℕ)} {shown : Shown} {K : Knows} {file : ℕ} {old new : World} → Opened file shown K old new → files.source ≡ file → IsTrue old.tells
-    → old.found (old.named file) ≡ Some file → AreLawful allows files h disks old → NodeBegins allows shown K files.source files.id h old new
-node_begins {allows} {files} {h} {disks} {shown} {K} {file} {old} {new} opened is told found lawful =
-    subst (λ (f : ℕ). NodeBegins allows shown K f files.id h old new) (sym is)
-    (opened.begins allows files.id h disks told found lawful.history_is (subst (λ (f : ℕ). Holds f (IsReady allows files.id h) (IsSafe allows files.id h disks) old) is lawful.source))
 
 pub call_of : (files : Files) {file : ℕ} {old new : World} → files.source ≡ file → OpenCall file old new → OpenCall files.source old new
 call_of files {file} {old} {new} is call = subst (λ (f : ℕ). OpenCall f old new) (sym is) call
-
-pub file_within : (f : ℕ) → Within (only_file f) any_call
-file_within f = record { files = λ g is. tt; reads = λ g is. tt; names = λ name none. none; text = λ none. tt; wire = λ none. tt }

@@ -4,8 +4,6 @@ use Rattle.std.proofs.lemmas.List.{length-append}
 use Rattle.disk_model.specs.Files.{IsGrown, IsLatest, IsOutcome}
 use Rattle.disk_model.specs.World.{versions}
 use Rattle.disk_model.proofs.Outcomes.{is_outcome}
-use Rattle.core_events.specs.Events.{Event}
-use Rattle.core_events.specs.Answers.{Answer}
 use Rattle.core_node.specs.Files.{Reading}
 use Rattle.core_loop.specs.Course.{Cut, Move, IsMove}
 use Rattle.core_loop.specs.Laws.{IsSeen, KilledIsACrash}
@@ -18,10 +16,12 @@ longer told (b ∷ t) n some is =
     let one : 0 < length (take (n + 1) (b ∷ t)) = grind arith in
     omega (arith, same, one)
 
-pub comes_after : (reading : Reading) (text : ℕ → Event → Answer → List ℕ) (source : List ℕ) (from : Cut) (move : Move) → IsMove reading text source from move → IsTrue from.world.prints → 0 < length (text move.cut.count move.event move.answer)
-    → ((n : ℕ) → move.start.printed ≡ (from.told ++ move.said) ++ take (n + 1) (text move.cut.count move.event move.answer) → ⊥) × (move.cut.world.printed ≡ from.told ++ move.said)
-comes_after reading text source from move step prints some = (
-  λ n is. longer (from.told ++ move.said) (text move.cut.count move.event move.answer) n some (sym (step.printed prints) ∙ is),
+pub comes_after : (reading : Reading) (own : ℕ → Type 0) (source : List ℕ) (from : Cut) (move : Move) → IsMove reading own source from move
+    → IsTrue from.world.prints → 0 < length (move.given.tell move.cut.number move.answer)
+    → ((n : ℕ) → move.start.printed ≡ (from.told ++ move.given.said) ++ take (n + 1) (move.given.tell move.cut.number move.answer) → ⊥)
+    × (move.cut.world.printed ≡ from.told ++ move.given.said)
+comes_after reading own source from move step prints some = (
+  λ n is. longer (from.told ++ move.given.said) (move.given.tell move.cut.number move.answer) n some (sym (step.printed prints) ∙ is),
   (step.work.text (λ none. none)).printed ∙ step.printed prints,
 )
 

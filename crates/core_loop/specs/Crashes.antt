@@ -1,12 +1,11 @@
 -- What follows for the files that a crash left.
-use Rattle.std.specs.Prelude.{◌≡◌, ◌⊎◌, ℕ, ◌<◌, ◌≤◌, List, [], ◌∷◌, length, Option, Some, Result, IsTrue, All, Contains}
+use Rattle.std.specs.Prelude.{◌≡◌, ◌⊎◌, ℕ, ◌<◌, ◌≤◌, List, [], ◌∷◌, length, Bool, Option, Some, Result, IsTrue, All, Contains}
 use Rattle.std.proofs.Common.{inl, inr}
 use Rattle.disk_model.specs.World.{World, versions, BeginsWith}
 use Rattle.qc_layout.specs.Directory.{stored_in}
 use Rattle.span_algebra.specs.declared.points.Point.{Point}
 use Rattle.span_algebra.specs.Timelines.{stands}
 use Rattle.bitmap_model.specs.Bitmap.{StoredBitmap}
-use Rattle.core_events.specs.Events.{Event}
 use Rattle.core_events.specs.Answers.{Answer}
 use Rattle.plain_model.specs.History.{History, IsHistory, now, disk_at, timeline_of}
 use Rattle.plain_model.specs.Records.{IsChain, overlay_of}
@@ -17,7 +16,7 @@ use Rattle.core_node.specs.Files.{Reading}
 use Rattle.image_model.specs.Images.{IsBackupOf}
 use Rattle.core_node.specs.Rest.{Directory, Files, State, or_marked, in_session, in_closing, AreLawful}
 use Rattle.core_loop.specs.declared.session.Stop.{Stop}
-use Rattle.core_loop.specs.Course.{Given, Cut, Move, StageAt, last_cut}
+use Rattle.core_loop.specs.Course.{Given, Heard, Cut, Move, StageAt, last_cut}
 use Rattle.core_loop.specs.Sessions.{Session}
 
 -- ---- chains
@@ -70,8 +69,8 @@ pub record SettlesAt (files : Files) (k : ℕ) (left : ℕ → Option (List ℕ)
 -- each chain gives the disk at its last point, each bitmap that is trusted covers its span, each sector of the disk is one that may be kept,
 -- and the next session may begin. The directory is that of the moment: in an opening as it was or marked, then that of the session, in a
 -- closing that or what the closing stores.
-abbrev pub Survives : {T : Type 0} {reading : Reading} {text : ℕ → Event → Answer → List ℕ} {allows : List Directory} {files : Files} {name : List ℕ} {h : History} {disks : List (List ℕ)} {result : Result T Stop} {over : List ℕ → Type 0} {given : List Given} {answer : Answer} {old new : World}
-    → ℕ → (ℕ → Option (List ℕ)) → Session reading text allows files name h disks result over given answer old new → Type 0
+abbrev pub Survives : {T : Type 0} {reading : Reading} {own : ℕ → Type 0} {allows : List Directory} {files : Files} {name : List ℕ} {h : History} {disks : List (List ℕ)} {result : Result T Stop} {closes : Bool} {over : List ℕ → Type 0} {told : List Heard → Type 0} {given : List Given} {answer : Answer} {old new : World}
+    → ℕ → (ℕ → Option (List ℕ)) → Session reading own allows files name h disks result closes over told given answer old new → Type 0
 Survives {allows = allows} {files = files} {h = h} {disks = disks} k left (inl none) = SettlesLeft (or_marked allows) files h disks left
 Survives {allows = allows} {files = files} {h = h} {disks = disks} k left (inr b) =
     ((k < b.first.world.now) × SettlesLeft (or_marked allows) files h disks left)

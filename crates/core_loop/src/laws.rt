@@ -1,6 +1,6 @@
 //! Laws of the definitions. Each function does nothing; its contract is the law.
 
-ghost use Rattle.core_loop.specs.Laws.{ChainsAtRestGiveDisks, OpeningLeads, SourcesBegin, EioNeedsFaults, AnswersComeAfter, KilledIsACrash};
+ghost use Rattle.core_loop.specs.Laws.{ChainsAtRestGiveDisks, OpeningLeads, SourcesBegin, CoversGoOn, EioNeedsFaults, AnswersComeAfter, KilledIsACrash};
 
 /// Chains of files at rest give the disk at their last point.
 pub fn chains_at_rest_give_disks()
@@ -15,6 +15,11 @@ pub fn opening_leads()
 /// A new source is at rest.
 pub fn sources_begin()
     ensures { SourcesBegin }
+{}
+
+/// The files that are spoken of serve for the next session too.
+pub fn covers_go_on()
+    ensures { CoversGoOn }
 {}
 
 /// A read or write is answered with EIO only where a call failed within it.

@@ -1,17 +1,17 @@
 //! Events that lie in memory.
 
-ghost use Rattle.std.specs.Prelude.{◌≡◌, ◌++◌, ◌-◌, ◌≤◌, ℕ, List, [], length, take, map, option_map, Contains, IsTrue, OnOk};
+ghost use Rattle.std.specs.Prelude.{◌≡◌, ◌++◌, ◌-◌, ◌≤◌, ℕ, List, [], length, take, map, option_map, Contains, IsTrue, OnOk, false};
 ghost use Rattle.std.proofs.Common.{refl, subst, ◌∙◌};
 ghost use Rattle.disk_model.specs.World.{World, Runs, only_text, PrintsPart, PrintCause};
 ghost use Rattle.core_events.specs.Answers as answers;
 ghost use Rattle.core_events.specs.Events as events;
 ghost use Rattle.core_events.specs.Views.{plain_event, plain_answer};
-ghost use Rattle.core_loop.specs.Course.{unsaid};
+ghost use Rattle.core_loop.specs.Course.{given_unsaid, unsaid};
 ghost use Rattle.core_loop.specs.Sessions.{Says};
 
 use crate::events::{Halt, Source};
 use core_events::{Answer, Event, ExportList};
-use disk_model::{Console, Failed};
+use disk_model::{Console, Depot, Failed};
 
 /// Tells answers.
 pub trait Teller {
@@ -41,12 +41,10 @@ pub struct Listed<'a, T: Teller> {
     pub teller: &'a T,
 }
 
-impl<'a, D: Console, T: Teller> Source<D> for Listed<'a, T> {
-    ghost text = { T.text };
+impl<'a, D: Depot + Console, T: Teller> Source<D> for Listed<'a, T> {
+    ghost gave = { λ s. unsaid T.text (take s.given (map plain_event s.all.now)) };
 
-    ghost gave = { λ s. unsaid (take s.given (map plain_event s.all.now)) };
-
-    ghost held = { λ s. option_map (λ e. plain_event e.now) s.held };
+    ghost held = { λ s. option_map (λ e. given_unsaid T.text (plain_event e.now)) s.held };
 
     ghost gives = { λ s e. Contains (map plain_event s.all.now) e };
 
@@ -54,7 +52,13 @@ impl<'a, D: Console, T: Teller> Source<D> for Listed<'a, T> {
 
     ghost over = { λ s rest. (length s.all.now ≤ s.given) × (rest ≡ []) };
 
-    ghost goes = { λ a b. b.all.now ≡ a.all.now };
+    ghost own = { λ s f. ⊥ };
+
+    ghost knows = { λ s w. Unit {0} };
+
+    ghost leaves_open = { λ s. false };
+
+    ghost goes = { λ a heard b. b.all.now ≡ a.all.now };
 
     fn next(&mut self, _outside: &mut D, _exports: &ExportList) -> Result<bool, Halt> {
         match self.all.get(self.given) {
@@ -81,9 +85,17 @@ impl<'a, D: Console, T: Teller> Source<D> for Listed<'a, T> {
         }
     }
 
+    fn leaves_open(&self) -> bool {
+        false
+    }
+
     ghost stays = { λ s. refl };
 
-    ghost goes_on = { λ a b c first second. second ∙ first };
+    ghost goes_on = { λ a b c heard more first second. second ∙ first };
 
-    ghost narrows = { λ a b e goes gives. subst (λ es. Contains (map plain_event es) e) goes gives };
+    ghost narrows = { λ a b e heard goes gives. subst (λ es. Contains (map plain_event es) e) goes gives };
+
+    ghost calm = { λ s a b calm knows. knows };
+
+    ghost owns = { λ a b f heard goes own. own };
 }

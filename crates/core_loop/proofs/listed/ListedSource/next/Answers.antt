@@ -4,7 +4,7 @@ use Rattle.std.proofs.lemmas.Bool.{false≢true}
 use Rattle.std.proofs.lemmas.List.{length-map, map-append, append-nil, take_more, get_or-map}
 use Rattle.core_events.specs.Events as events
 use Rattle.core_events.specs.Views.{plain_event}
-use Rattle.core_loop.specs.Course.{Given, unsaid}
+use Rattle.core_loop.specs.Course.{given_unsaid}
 use Rattle.core_loop.proofs.listed.ListedSource.next.Goals as goal
 
 -- one more of them is taken
@@ -24,11 +24,11 @@ returns-in-Some-clause-gave g c =
     let x = c.in-Some.event.now in
     let below : n < length all = search rules in
     let is : x ≡ get_or all n x = search rules in
-    let given : Given = record { said = []; event = plain_event x } in
+    let given = given_unsaid g.T.Teller.text in
     record {
       one = λ there. record {
-        given = given;
-        more_is = ap unsaid (one_more plain_event all n x below is) ∙ map-append (λ (e : events.Event). record { said = []; event = e }) (take n (map plain_event all)) (plain_event x ∷ []);
+        given = given (plain_event x);
+        more_is = ap (map given) (one_more plain_event all n x below is) ∙ map-append given (take n (map plain_event all)) (plain_event x ∷ []);
         held_is = refl;
         may = is_among plain_event all n x below is;
         fewer = omega (arith, below);
