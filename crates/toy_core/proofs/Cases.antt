@@ -3,10 +3,12 @@ use Rattle.std.proofs.Common.{◌≡◌, inl, inr, ℕ, ◌+◌, ◌<◌, ◌≤
 use Rattle.std.specs.Prelude.{if◌then◌else◌, is_none, nat_lt}
 use Rattle.std.proofs.lemmas.Bool.{cases_Bool, false≢true, or_parts}
 use Rattle.disk_model.specs.Files.{reading}
-use Rattle.disk_model.specs.World.{World, versions, IsSound, Runs, nothing, reads_of, writes_of, Writes, HasWritten, Syncs, HasSynced, Rose, EachSince}
+use Rattle.disk_model.specs.World.{World, versions, IsSound, Runs, nothing, reads_of, writes_of, Writes, HasWritten, Syncs, HasSynced, Rose, EachSince, FileFailed}
 use Rattle.disk_model.proofs.Laws.{stay, run_more, spared, since_more, sync_leads}
 use Rattle.disk_model.proofs.Laws.{each_more, reading_written}
 use Rattle.core_events.specs.Events.{Request, Event, Guest, Monitor, Tick}
+use Rattle.core_events.specs.declared.events.Way.{Way}
+use Rattle.core_events.specs.declared.events.Way.TheVariants.{Node, Export}
 use Rattle.core_events.specs.declared.events.Work.{Work}
 use Rattle.core_events.specs.declared.events.Work.TheVariants.{Read, Write, Zero, Flush, Status}
 use Rattle.core_events.specs.declared.answers.Errno.{Errno}
@@ -14,7 +16,7 @@ use Rattle.core_events.specs.declared.answers.Errno.TheVariants.{Io}
 use Rattle.core_events.specs.Answers.{Answer, Done, Content, Fault}
 use Rattle.plain_model.specs.History.{History, Wrote, with_entry, now}
 use Rattle.image_model.specs.Space.{Store}
-use Rattle.plain_model.specs.Machine.{Machine}
+use Rattle.plain_model.specs.Machine.{Machine, next_number}
 use Rattle.plain_model.specs.Requests.{longest, HasBytes, is_write, denial, place_of, Drive, Nowhere, range_of, bytes_at}
 use Rattle.disk_model.proofs.Laws.{length-reading}
 use Rattle.disk_model.proofs.Laws.{reading_inside, reading-reading}
@@ -27,14 +29,14 @@ use Rattle.plain_model.specs.Jobs.{Job}
 use Rattle.plain_model.specs.Requests.{is_flush}
 use Rattle.core_node.specs.Standing.{Shown, SameNumbers, SameBitmaps, shown_view}
 use Rattle.plain_model.specs.Faults.{is_io_errno}
-use Rattle.core_node.specs.Causes.{Causes}
+use Rattle.core_node.specs.Causes.{Causes, RequestFailed, WayFailed}
 use Rattle.core_node.proofs.Causing.{quiet_causes}
 use Rattle.core_node.proofs.Keeping.{still_leads}
+use Rattle.core_node.proofs.Rests.{kept_in_event}
 use Rattle.core_node.specs.Step.{HasHead, DeniesAs, kept_during, NodeSteps}
 use Rattle.core_node.specs.Touches.{works_on, is_denied}
 use Rattle.core_node.specs.Rest.{IsSafe}
 use Rattle.core_node.specs.Files.{Reading}
-use Rattle.core_loop.proofs.Courses.{kept_in_event}
 use Rattle.core_layers.proofs.Exports.{target_goes_on}
 use Rattle.toy_core.specs.declared.toy.Toy.{Toy}
 use Rattle.toy_image.specs.Images.{store_of, IsVersionOf, disk_in}
@@ -90,7 +92,7 @@ still t n broken old new h disks after event k tells named seen same before is =
   crashes = since_more new old.now t.source.file.0 (IsSafe (directory t ∷ []) t.source.image.id h disks) (IsSafe (directory t ∷ []) t.source.image.id h (kept_during disks event (now h)))
       (λ c s. safe_during t h disks event c (k.image.size_is ∙ sym (sized t h t.source.image.size k.image.size_is k.sound)) s)
       (still_crashes t old new h disks k (λ i low high. inl (before i low high)) same);
-  head = λ sector. still_leads (HasHead sector) (HasHead sector) tells seen same (λ i low high. inl (before i low high));
+  head = λ start short. still_leads (HasHead start) (HasHead start) tells seen same (λ i low high. inl (before i low high));
 }
 
 unchanged : (t : Toy) (n : ℕ) (broken : Option ℕ) (h next : History) → IsChanged (machine_of t h) (no_change (machine_of t h)) (machine_of (moved t n broken) next)
@@ -214,7 +216,7 @@ module _ (t : Toy) (r : Request) (built : IsBuilt r.work) (has : HasBytes r r.wo
       write_leaves ok h disks k = record {
         holds = λ s. subst (IsHeld (next t) new (grow h)) (sym (after_is ok disks (now (grow h)))) (write_holds t old new h disks r.offset r.bytes k sound_new call fits (next t).event t.broken s);
         crashes = subst (λ (ds : List (List ℕ)). EachSince new old.now t.source.file.0 (IsSafe (directory t ∷ []) t.source.image.id h ds)) (sym (during_is disks (now (grow h)))) (write_crashes t old new h disks r.offset r.bytes k sound_new call fits);
-        head = λ sector. write_head t old new h disks r.offset r.bytes k sound_new call fits sector sound_old;
+        head = λ start short. write_head t old new h disks r.offset r.bytes k sound_new call fits start sound_old short;
       }
 
       only : (g : ℕ) → (writes_of t.source.file.0).files g → g ≡ t.source.file.0
@@ -284,7 +286,7 @@ module _ (t : Toy) (r : Request) (built : IsBuilt r.work) (has : HasBytes r r.wo
               leaves = record {
                 holds = λ s. subst (IsHeld (next t) new h) (sym (ap (λ (w : Work). disks_after disks w true (now h)) work)) (synced_holds t old new h disks k sound_old call done (next t).event t.broken s);
                 crashes = subst (λ (ds : List (List ℕ)). EachSince new old.now t.source.file.0 (IsSafe (directory t ∷ []) t.source.image.id h ds)) (sym (same_during disks (now h))) (synced_crashes t old new h disks k sound_old call done);
-                head = λ sector. sync_leads (HasHead sector) (HasHead sector) (HasHead sector) sound_old call (λ c is. is);
+                head = λ start short. sync_leads (HasHead start) (HasHead start) (HasHead start) sound_old call (λ c is. is);
               };
             }
 
@@ -451,7 +453,16 @@ flush_left (Status context one) built a b = absurd built
 
 -- ---- why an event met a fault
 
-pub denied_causes : (t : Toy) (r : Request) (errno : Errno) (n : ℕ) (old new : World) → denies t r ≡ Some errno
-    → Causes (shown t) (shown (moved t n t.broken)) old new (record { reply = Fault errno; notices = [] })
-denied_causes t r errno n old new is = quiet_causes refl (λ whole.
-    ap (λ (o : Option ℕ). is_none o && is_io_errno errno) (sym whole) ∙ denied_counts (on_drive r.way) (is_bad t r r.work) t.broken errno is) (λ device. device)
+pub denied_causes : (t : Toy) (r : Request) (errno : Errno) (n : ℕ) (old new : World) → denies t r ≡ Some errno → n ≡ next_number t.event
+    → Causes (shown t) (shown (moved t n t.broken)) old new (Guest r) (record { reply = Fault errno; notices = [] })
+denied_causes t r errno n old new is number = quiet_causes refl (λ whole.
+    ap (λ (o : Option ℕ). is_none o && is_io_errno errno) (sym whole) ∙ denied_counts (on_drive r.way) (is_bad t r r.work) t.broken errno is)
+    (λ refused. refused) number
+
+-- a request that isn't denied leads to the source's file
+pub failed_for : (t : Toy) (r : Request) {old new : World} → denies t r ≡ None → FileFailed t.source.file.0 old new → RequestFailed (shown t) old new (Guest r)
+failed_for t r {old} {new} none failed = by_way r.way (granted_drive t r none)
+  where
+    by_way : (way : Way) → on_drive way ≡ true → WayFailed (shown t) old new way
+    by_way (Node name) drive = inl failed
+    by_way (Export name) drive = absurd (false≢true drive)

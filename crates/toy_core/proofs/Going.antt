@@ -1,9 +1,9 @@
 -- One event, from what its calls leave and what the machine does.
-use Rattle.std.proofs.Common.{◌≡◌, ◌⊎◌, inl, inr, ℕ, List, [], ◌∷◌, true, false, IsTrue, Option, refl, sym, ap, subst, ◌∙◌, arith}
+use Rattle.std.proofs.Common.{◌≡◌, ◌⊎◌, inl, inr, ℕ, ◌≤◌, List, [], ◌∷◌, length, true, false, IsTrue, Option, refl, sym, ap, subst, ◌∙◌, arith}
 use Rattle.std.specs.Prelude.{Contains}
 use Rattle.std.proofs.lemmas.Bool.{cases_eq, false≢true}
 use Rattle.disk_model.specs.World.{World, Parts, Runs, EachSince, Leads}
-use Rattle.disk_model.proofs.Laws.{since_more}
+use Rattle.disk_model.proofs.Laws.{since_more, since_spared}
 use Rattle.disk_model.proofs.Laws.{spare_leads, lead_more}
 use Rattle.core_events.specs.Events.{Event}
 use Rattle.core_events.specs.Answers.{Reply}
@@ -17,6 +17,7 @@ use Rattle.plain_model.specs.Step.{StepContents, StepSpace, HasLeft}
 use Rattle.plain_model.specs.Sound as sound
 use Rattle.plain_model.proofs.Steps.{IsSoundOutcome, stepped_is_sound}
 use Rattle.core_node.specs.Files.{event_starts_on, IsLawfulTarget, Reading}
+use Rattle.image_model.specs.Backups.{Backup}
 use Rattle.image_model.specs.Images.{IsBackupFile, IsBackupOf, IsTargetOf}
 use Rattle.qc_layout.specs.declared.header.Part.TheVariants as forms
 use Rattle.qc_layout.specs.Spelling.{IsHeaderOf}
@@ -47,7 +48,8 @@ other_leads {parts} {a} {b} source f S P run only told none = elim (cases_eq f s
 pub record Leaves (t : Toy) (n : ℕ) (broken : Option ℕ) (h next : History) (within after : List (List ℕ)) (old new : World) : Type 0 where
   pub holds : sound.IsSound (machine_of (moved t n broken) next) → IsHeld (moved t n broken) new next after
   pub crashes : EachSince new old.now t.source.file.0 (IsSafe (directory t ∷ []) t.source.image.id h within)
-  pub head : (sector : List ℕ) → Leads t.source.file.0 (HasHead sector) (HasHead sector) (HasHead sector) (HasHead sector) (HasHead sector) old new
+  pub head : (start : List ℕ) → length start ≤ t.source.image.cluster
+      → Leads t.source.file.0 (HasHead start) (HasHead start) (HasHead start) (HasHead start) (HasHead start) old new
 
 -- for each history and its disks
 pub record Served (held : List ℕ → Held) (rise : Rise) (tr : Trouble) (t : Toy) (n : ℕ) (broken : Option ℕ) (grow : History → History) (old new : World) (event : Event) (reply : Reply) (h : History) (disks : List (List ℕ)) : Type 0 where
@@ -102,6 +104,11 @@ module _ (parts : Parts) (held : List ℕ → Held) (rise : Rise) (tr : Trouble)
   crash_next h disks k = since_more new old.now t.source.file.0 (IsSafe (directory t ∷ []) t.source.image.id h (kept_during disks event (now (next_at (state_of t h disks)).machine.history))) _ (λ c is. inl is)
       (subst (λ (m : Machine). EachSince new old.now t.source.file.0 (IsSafe (directory t ∷ []) t.source.image.id h (kept_during disks event (now m.history)))) (sym (machine_is h disks k)) (served h disks k).leaves.crashes)
 
+  -- no crash leaves a backup of the source
+  never_backup : {s : State} (b : Backup) → Keeps t old s → EachSince new old.now t.source.file.0 (λ c. IsBackupOf c b → ⊥)
+  never_backup b k = since_more new old.now t.source.file.0 _ (λ c. IsBackupOf c b → ⊥)
+      (λ c safe backup. one_kind safe.ready.finds.source backup.in_order) (served k.history k.disks k.holds).leaves.crashes
+
   lawful_next : (c : List ℕ) (s : State) → Keeps t old s → IsLawfulTarget t.source.image.id s.machine.history c → IsLawfulTarget t.source.image.id (next_at s).machine.history c
   lawful_next c = at_state (λ s. IsLawfulTarget t.source.image.id s.machine.history c → IsLawfulTarget t.source.image.id (next_at s).machine.history c)
       (λ h disks k law. subst (λ (m : Machine). IsLawfulTarget t.source.image.id m.history c) (sym (machine_is h disks k)) (grows h c law))
@@ -119,15 +126,21 @@ module _ (parts : Parts) (held : List ℕ → Held) (rise : Rise) (tr : Trouble)
       | inl same ↦ absurd (one_kind (holds_next k.history k.disks k.holds).image.source (subst (λ (g : ℕ). IsTargetOf (new.seen g) true size store) same target).in_order)
       | inr other ↦ (size, store, subst (λ (file : List ℕ). IsTargetOf file true size store) ((run.files f (λ is. other (only f is))).seen) target)
     ];
-    source_head = λ s sector k. (served k.history k.disks k.holds).leaves.head sector;
-    target_heads = λ s f at sector k has. elim (cases_eq f t.source.file.0) [
+    source_head = λ s start k short. (served k.history k.disks k.holds).leaves.head start
+        (subst (λ (s : State). length start ≤ s.machine.store.cluster) k.is short);
+    target_heads = λ s f at start k has short. elim (cases_eq f t.source.file.0) [
       | inl same ↦ absurd (no_record k.holds.image.source (subst (λ (g : ℕ). IsHeaderOf forms.Target (old.seen g) has.0) same has.2).spells has.3)
-      | inr other ↦ spare_leads f (HasHeadBut at sector) (HasHeadBut at sector) run (λ is. other (only f is))
+      | inr other ↦ spare_leads f (HasHeadBut at start) (HasHeadBut at start) run (λ is. other (only f is))
     ];
     seals = λ s f b base p k sealed backup. elim (cases_eq f t.source.file.0) [
       | inl same ↦ absurd (one_kind (holds_next k.history k.disks k.holds).image.source (subst (λ (g : ℕ). IsBackupOf (new.seen g) b) same backup).in_order)
       | inr other ↦ inl (subst (λ (file : List ℕ). IsBackupOf file b) ((run.files f (λ is. other (only f is))).seen) backup)
     ];
+    sealing = λ s f b base p k sealed none. since_more new old.now f (λ c. IsBackupOf c b → ⊥) _ (λ c not backup. absurd (not backup))
+        (elim (cases_eq f t.source.file.0) [
+          | inl same ↦ subst (λ (g : ℕ). EachSince new old.now g (λ c. IsBackupOf c b → ⊥)) (sym same) (never_backup b k)
+          | inr other ↦ since_spared f (λ c. IsBackupOf c b → ⊥) run (λ is. other (only f is)) none
+        ]);
     sealed = λ s j k there. absurd (omega (arith, (subst (λ (s : State). Contains s.machine.jobs j) k.is there).1));
     stays = λ s f b base p k sealed. other_leads t.source.file.0 f (λ c. IsBackupOf c b) (λ c. IsBackupOf c b) run only told (λ is. no_backup k.holds is.in_order);
   }

@@ -1,24 +1,23 @@
 -- What calls on the file leave of what is known of it.
-use Rattle.std.proofs.Common.{◌≡◌, inl, inr, ⊎_elim, ℕ, ◌+◌, ◌<◌, ◌≤◌, List, [], ◌∷◌, ◌++◌, length, IsTrue, Option, refl, sym, ap, subst, ◌∙◌, arith}
+use Rattle.std.proofs.Common.{◌≡◌, inl, inr, ⊎_elim, ℕ, ◌+◌, ◌^◌, ◌<◌, ◌≤◌, List, [], ◌∷◌, ◌++◌, length, IsTrue, Option, refl, sym, ap, subst, ◌∙◌, arith}
 use Rattle.std.specs.Prelude.{Contains}
 use Rattle.std.proofs.lemmas.List.Elements.{Contains-append_left, Contains-push, All-push, All-weaker, All-contains, All-cons, All-nil}
 use Rattle.disk_model.specs.Files.{byte, reading, overlay, IsOutcome, EachVersion, MayWrite, IsLatest, after_sync}
 use Rattle.disk_model.specs.Files as files
 use Rattle.disk_model.specs.World.{World, Parts, Runs, versions, IsSound, Writes, Syncs, HasSynced, EachNow, EachSince, StepsWithin, Leads}
-use Rattle.disk_model.proofs.Laws.{length-reading}
+use Rattle.disk_model.proofs.Laws.{length-reading, reading_same}
 use Rattle.disk_model.proofs.Laws.{torn_elsewhere}
 use Rattle.disk_model.proofs.Laws.{each_more, torn_length}
 use Rattle.disk_model.proofs.Laws.{since_step, since_more, steps_within}
 use Rattle.qc_layout.specs.declared.header.Fields.{Fields}
 use Rattle.qc_layout.specs.declared.header.Part.TheVariants as parts
 use Rattle.qc_layout.specs.Header.{fields_of}
+use Rattle.qc_layout.specs.Disks.{bits_of}
 use Rattle.qc_layout.proofs.OneDisk.{one_disk}
 use Rattle.plain_model.specs.History.{History, Wrote, with_entry, now}
 use Rattle.plain_model.specs.Laws.{IsLikeDisk}
 use Rattle.plain_model.specs.Lawful.{Kept}
 use Rattle.plain_model.proofs.SettleLaws.{last_kept}
-use Rattle.qc_layout.specs.Extensions.{list_end}
-use Rattle.std.proofs.Math.Nat.{le-max_left, le_trans}
 use Rattle.plain_model.specs.Step as step
 use Rattle.plain_model.specs.Sound as sound
 use Rattle.plain_model.proofs.Histories.{length-now}
@@ -27,14 +26,15 @@ use Rattle.core_node.specs.Rest.{Directory, Mixes, IsSafe}
 use Rattle.core_layers.specs.Layers.{IsMixed}
 use Rattle.core_layers.proofs.Exports.{mixed_is_safe, epochs-wrote}
 use Rattle.core_node.specs.Step.{HasHead}
+use Rattle.core_node.specs.Ends.{IsHeadKnown, KeepsHeader}
 use Rattle.core_node.proofs.Rests.{mixes_keep}
 use Rattle.core_node.proofs.Keeping.{write_keeps_head}
 use Rattle.toy_image.specs.declared.numbers.Numbers.{Numbers}
 use Rattle.toy_core.specs.declared.toy.Toy.{Toy}
 use Rattle.toy_image.specs.Images.{IsSuited, IsImage, disk_in, IsLike, GuestBytesAreFree, IsVersionOf}
 use Rattle.toy_core.specs.Toy.{machine_of, IsHeld, IsNamed}
-use Rattle.toy_image.proofs.Free.{guest_bytes_are_free, like_fields}
-use Rattle.toy_core.proofs.Outcomes.{outcome_mixed}
+use Rattle.toy_image.proofs.Free.{guest_bytes_are_free, like_fields, like_header}
+use Rattle.toy_core.proofs.Outcomes.{like_outcome, outcome_mixed}
 use Rattle.toy_core.proofs.Bytes.{overlay_read, torn_disk}
 
 -- ---- another event's number
@@ -74,6 +74,24 @@ mixed_now t h disks file w free suits image size mixes each c left = outcome_mix
 
 pub held_now : {t : Toy} {w : World} {h : History} {disks : List (List ℕ)} → IsHeld t w h disks → EachNow w t.source.file.0 (IsMixed t.source.image.id (directory t) disks)
 held_now {t} {w} {h} {disks} k = mixed_now t h disks (w.seen t.source.file.0) w guest_bytes_are_free k.suits k.image (sized t h t.source.image.size k.image.size_is k.sound) k.mixes k.each
+
+-- ---- the first cluster, and the header in it
+
+module _ {t : Toy} {w : World} {h : History} {disks : List (List ℕ)} (k : IsHeld t w h disks) where
+  abbrev seen : List ℕ
+  seen = w.seen t.source.file.0
+
+  like_now : EachNow w t.source.file.0 (IsLike t.source.image (w.seen t.source.file.0))
+  like_now c left = like_outcome t.source.image disks seen (versions w t.source.file.0) c k.each left
+
+  pub head_known : IsHeadKnown t.source.file.0 w
+  head_known c left =
+      let front = k.image.front.cluster in
+      ap (λ (n : ℕ). reading c 0 n) (length-reading seen 0 (2 ^ bits_of seen))
+      ∙ reading_same c seen 0 (2 ^ bits_of seen) (λ i low high. (like_now c left).outside i (inl (omega (arith, high, front))))
+
+  pub headers_now : EachNow w t.source.file.0 (KeepsHeader (w.seen t.source.file.0))
+  headers_now c left = like_header t.source.image (now h) seen c k.image (like_now c left)
 
 -- ---- one disk more
 
@@ -167,10 +185,10 @@ module _ (t : Toy) (old new : World) (h : History) (disks : List (List ℕ)) (at
   write_crashes = since_more new old.now t.source.file.0 (IsMixed t.source.image.id (directory t) more) (IsSafe (directory t ∷ []) t.source.image.id h more)
       (λ c m. mixed_is_safe k.sound.history_is k.epochs mixes_within.among m) (since_step old new t.source.file.0 (IsMixed t.source.image.id (directory t) more) call.steps before after)
 
-  pub write_head : (sector : List ℕ) → IsSound old
-      → Leads t.source.file.0 (HasHead sector) (HasHead sector) (HasHead sector) (HasHead sector) (HasHead sector) old new
-  write_head sector sound_old = write_keeps_head sector sound_old sound_new call
-      (let first = le_trans (le-max_left 512 (list_end (fields_of (old.seen t.source.file.0)).cluster_bits)) k.image.front.head in omega (arith, first))
+  pub write_head : (start : List ℕ) → IsSound old → length start ≤ t.source.image.cluster
+      → Leads t.source.file.0 (HasHead start) (HasHead start) (HasHead start) (HasHead start) (HasHead start) old new
+  write_head start sound_old short = write_keeps_head start sound_old sound_new call
+      (let front = k.image.front.cluster in let cluster = k.image.source.clusters.cluster_is in omega (arith, front, cluster, short))
 
   pub write_holds : (event : ℕ) (broken : Option ℕ) → sound.IsSound (machine_of (moved t event broken) written) → IsHeld (moved t event broken) new written more
   write_holds event broken sound_after = record {

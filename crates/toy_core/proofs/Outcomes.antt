@@ -25,7 +25,7 @@ sector_read t file k sectors size below =
     sym (reading_inside (disk_in t file) (512 * k) 512 (omega (arith, long, fits))) ∙ reading-reading file t.base t.size (512 * k) 512 fits
 
 -- what a crash leaves is an image, with a disk that is mixed of those of the versions
-like_outcome : (t : Numbers) (disks : List (List ℕ)) (file : List ℕ) (vs : List (List ℕ)) (c : List ℕ) → EachVersion (IsVersionOf t disks file) vs → IsOutcome vs c → IsLike t file c
+pub like_outcome : (t : Numbers) (disks : List (List ℕ)) (file : List ℕ) (vs : List (List ℕ)) (c : List ℕ) → EachVersion (IsVersionOf t disks file) vs → IsOutcome vs c → IsLike t file c
 like_outcome t disks file [] c each left = absurd (left.sectors 0)
 like_outcome t disks file (v ∷ vs) c each left = record {
   long = let low = left.no_shorter in let high = left.no_longer in let first = each.0.like.long in let last = (each_synced (IsVersionOf t disks file) v vs each).like.long in omega arith;

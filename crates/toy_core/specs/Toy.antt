@@ -20,8 +20,8 @@ use Rattle.core_node.specs.Standing.{Shown}
 use Rattle.core_node.specs.Rest.{State, Mixes}
 use Rattle.qc_layout.specs.Header.{fields_of}
 use Rattle.toy_image.specs.Images.{store_of, Opens, IsSuited, IsImage, IsVersionOf}
-use Rattle.core_node.specs.declared.node.NotOpened.{NotOpened}
-use Rattle.core_node.specs.declared.node.NotOpened.TheVariants as unopened
+use Rattle.image_model.specs.declared.refusals.OpenRefusal.{OpenRefusal}
+use Rattle.image_model.specs.declared.refusals.OpenRefusal.TheVariants as unopened
 use Rattle.toy_image.specs.declared.image.NotLooked.{NotLooked}
 use Rattle.toy_image.specs.declared.image.NotLooked.TheVariants as unlooked
 use Rattle.toy_core.specs.declared.toy.Toy.{Toy}
@@ -144,8 +144,8 @@ pub record Keeps (t : Toy) (w : World) (s : State) : Type 0 where
 -- ---- what isn't opened
 
 -- what is told where it isn't known what an image is
-abbrev pub IsUnopened : NotOpened → NotLooked → Type 0
-IsUnopened shows unlooked.Other = shows ≡ unopened.Rule
+abbrev pub IsUnopened : OpenRefusal → NotLooked → Type 0
+IsUnopened shows unlooked.Other = shows ≡ unopened.NotAdopted
 IsUnopened shows unlooked.Failed = shows ≡ unopened.Failed
 IsUnopened shows unlooked.Memory = shows ≡ unopened.Memory
 

@@ -11,26 +11,26 @@ ghost use Rattle.toy_core.specs.Toy.{IsUnopened, Suits, shown, Keeps};
 
 use crate::toy::{Source, Toy};
 use core_events::ExportList;
-use core_node::NotOpened;
 use disk_model::{Depot, FileNo};
 use first_sector::rewrite_first_sector;
+use image_model::OpenRefusal;
 use std::alloc::Global;
 use toy_image::{NotLooked, head, look};
 
 /// Why an image isn't opened of which it isn't known what it is.
-fn unopened(why: NotLooked) -> NotOpened
+fn unopened(why: NotLooked) -> OpenRefusal
     ensures { IsUnopened result why }
 {
     match why {
-        NotLooked::Other => NotOpened::Rule,
-        NotLooked::Failed => NotOpened::Failed,
-        NotLooked::Memory => NotOpened::Memory,
+        NotLooked::Other => OpenRefusal::NotAdopted,
+        NotLooked::Failed => OpenRefusal::Failed,
+        NotLooked::Memory => OpenRefusal::Memory,
     }
 }
 
 impl Toy {
     /// Begins a session on an image. What is promised of it holds where it is of the form.
-    pub fn begin<D: Depot>(alloc: Global, depot: &mut D, file: FileNo) -> Result<Toy, NotOpened>
+    pub fn begin<D: Depot>(alloc: Global, depot: &mut D, file: FileNo) -> Result<Toy, OpenRefusal>
         requires given { file.0 < (D.world depot.old).given }
         ensures opened { IfOk result (λ toy. Suits file.0 (D.world depot.old) → Opened file.0 (shown toy) (Keeps toy (D.world depot.new)) (D.world depot.old) (D.world depot.new)) }
         ensures within { (d : Directory) (id : List ℕ) (h : History) → Suits file.0 (D.world depot.old) → IsTrue (D.world depot.old).tells → IsHistory h →
@@ -44,12 +44,12 @@ impl Toy {
             Err(why) => return Err(unopened(why)),
         };
         if image.epoch == u64::MAX {
-            return Err(NotOpened::Rule);
+            return Err(OpenRefusal::EpochSpent);
         }
         let sector = head(header);
         match rewrite_first_sector(depot, file, &sector) {
             Ok(()) => {}
-            Err(_) => return Err(NotOpened::Failed),
+            Err(_) => return Err(OpenRefusal::Failed),
         }
         image.epoch += 1;
         let exports = ExportList {

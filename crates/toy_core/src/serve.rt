@@ -68,7 +68,7 @@ impl Toy {
         requires work { request.now.work ≡ work.Write false }
         ensures steps { (bytes : List ℕ) (runs : List Run) → IsTrue (D.world depot.old).tells →
             NodeSteps no_targets (shown self.old) (Keeps self.old (D.world depot.old)) (Keeps self.new (D.world depot.new)) (D.world depot.old) (D.world depot.new) (events.Guest (plain_request request.now)) (record { reply = plain_reply result bytes runs; notices = [] }) }
-        ensures causes { (bytes : List ℕ) (runs : List Run) → Causes (shown self.old) (shown self.new) (D.world depot.old) (D.world depot.new) (record { reply = plain_reply result bytes runs; notices = [] }) }
+        ensures causes { (bytes : List ℕ) (runs : List Run) → Causes (shown self.old) (shown self.new) (D.world depot.old) (D.world depot.new) (events.Guest (plain_request request.now)) (record { reply = plain_reply result bytes runs; notices = [] }) }
         ensures source { SameSource (shown self.old) (shown self.new) }
         ensures run { Runs (writes_of self.old.source.file.0) (D.world depot.old) (D.world depot.new) }
         ensures carried { (held : List ℕ) (runs : List Run) → is_denied (plain_reply result held runs) ≡ false }
@@ -88,7 +88,7 @@ impl Toy {
         requires work { request.now.work ≡ work.Flush }
         ensures steps { (bytes : List ℕ) (runs : List Run) → IsTrue (D.world depot.old).tells →
             NodeSteps no_targets (shown self.old) (Keeps self.old (D.world depot.old)) (Keeps self.new (D.world depot.new)) (D.world depot.old) (D.world depot.new) (events.Guest (plain_request request.now)) (record { reply = plain_reply result bytes runs; notices = [] }) }
-        ensures causes { (bytes : List ℕ) (runs : List Run) → Causes (shown self.old) (shown self.new) (D.world depot.old) (D.world depot.new) (record { reply = plain_reply result bytes runs; notices = [] }) }
+        ensures causes { (bytes : List ℕ) (runs : List Run) → Causes (shown self.old) (shown self.new) (D.world depot.old) (D.world depot.new) (events.Guest (plain_request request.now)) (record { reply = plain_reply result bytes runs; notices = [] }) }
         ensures source { SameSource (shown self.old) (shown self.new) }
         ensures run { Runs (writes_of self.old.source.file.0) (D.world depot.old) (D.world depot.new) }
         ensures carried { (held : List ℕ) (runs : List Run) → is_denied (plain_reply result held runs) ≡ false }
@@ -111,7 +111,7 @@ impl Toy {
         requires room { request.now.length ≤ vec_capacity bytes.old }
         ensures steps { (runs : List Run) → IsTrue (D.world depot.old).tells →
             NodeSteps no_targets (shown self.old) (Keeps self.old (D.world depot.old)) (Keeps self.new (D.world depot.new)) (D.world depot.old) (D.world depot.new) (events.Guest (plain_request request.now)) (record { reply = plain_reply result bytes.new.items runs; notices = [] }) }
-        ensures causes { (runs : List Run) → Causes (shown self.old) (shown self.new) (D.world depot.old) (D.world depot.new) (record { reply = plain_reply result bytes.new.items runs; notices = [] }) }
+        ensures causes { (runs : List Run) → Causes (shown self.old) (shown self.new) (D.world depot.old) (D.world depot.new) (events.Guest (plain_request request.now)) (record { reply = plain_reply result bytes.new.items runs; notices = [] }) }
         ensures source { SameSource (shown self.old) (shown self.new) }
         ensures run { Runs (reads_of self.old.source.file.0) (D.world depot.old) (D.world depot.new) }
         ensures carried { (held : List ℕ) (runs : List Run) → is_denied (plain_reply result held runs) ≡ false }
@@ -135,7 +135,7 @@ impl Toy {
         ensures steps { (runs : List Run) → IsTrue (D.world depot.old).tells →
             NodeSteps no_targets (shown self.old) (Keeps self.old (D.world depot.old)) (Keeps self.new (D.world depot.new)) (D.world depot.old) (D.world depot.new) (events.Guest (plain_request request.now)) (record { reply = plain_reply result bytes.new.items runs; notices = [] }) }
         ensures denied { (runs : List Run) → DeniesAs (shown self.old) (events.Guest (plain_request request.now)) (record { reply = plain_reply result bytes.new.items runs; notices = [] }) }
-        ensures causes { (runs : List Run) → Causes (shown self.old) (shown self.new) (D.world depot.old) (D.world depot.new) (record { reply = plain_reply result bytes.new.items runs; notices = [] }) }
+        ensures causes { (runs : List Run) → Causes (shown self.old) (shown self.new) (D.world depot.old) (D.world depot.new) (events.Guest (plain_request request.now)) (record { reply = plain_reply result bytes.new.items runs; notices = [] }) }
         ensures source { SameSource (shown self.old) (shown self.new) }
         ensures run { (runs : List Run) → Runs (works_on (shown self.old) (shown self.new) (D.world depot.new) (events.Guest (plain_request request.now)) (record { reply = plain_reply result bytes.new.items runs; notices = [] })) (D.world depot.old) (D.world depot.new) }
     {
@@ -167,7 +167,7 @@ impl Toy {
         ensures command { OnErr result (IsTrue (is_command (plain_event event.now))) }
         ensures kept { OnErr result (self.new ≡ self.old) }
         ensures undone { OnErr result (D.world depot.new ≡ D.world depot.old) }
-        ensures causes { IfOk result (λ reply. (runs : List Run) → Causes (shown self.old) (shown self.new) (D.world depot.old) (D.world depot.new) (record { reply = plain_reply reply bytes.new.items runs; notices = [] })) }
+        ensures causes { IfOk result (λ reply. (runs : List Run) → Causes (shown self.old) (shown self.new) (D.world depot.old) (D.world depot.new) (plain_event event.now) (record { reply = plain_reply reply bytes.new.items runs; notices = [] })) }
         ensures source { SameSource (shown self.old) (shown self.new) }
         ensures run { MatchResult result
             (λ reply. (runs : List Run) → Runs (works_on (shown self.old) (shown self.new) (D.world depot.new) (plain_event event.now) (record { reply = plain_reply reply bytes.new.items runs; notices = [] })) (D.world depot.old) (D.world depot.new))
@@ -200,7 +200,7 @@ impl Toy {
         ensures command { OnErr result (IsTrue (is_command (plain_event event.now))) }
         ensures kept { OnErr result (self.new ≡ self.old) }
         ensures undone { OnErr result (D.world depot.new ≡ D.world depot.old) }
-        ensures causes { OnOk result (Causes (shown self.old) (shown self.new) (D.world depot.old) (D.world depot.new) (plain_answer answer.new)) }
+        ensures causes { OnOk result (Causes (shown self.old) (shown self.new) (D.world depot.old) (D.world depot.new) (plain_event event.now) (plain_answer answer.new)) }
         ensures source { SameSource (shown self.old) (shown self.new) }
         ensures run { Runs (works_on (shown self.old) (shown self.new) (D.world depot.new) (plain_event event.now) (plain_answer answer.new)) (D.world depot.old) (D.world depot.new) }
     {

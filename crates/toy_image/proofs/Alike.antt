@@ -235,6 +235,7 @@ module _ (n : Numbers) (disk file other : List ℕ) (image : IsImage n disk file
 
   front : IsInFront n.base (length (store_of n).kinds) (length (store_of n).tables) other
   front = record {
+    cluster = subst (λ (b : ℕ). 2 ^ b ≤ n.base) (sym bits) image.front.cluster;
     head = subst (λ (m : ℕ). m ≤ n.base) (ap (λ (b : ℕ). max 512 (list_end b)) (sym bits)) image.front.head;
     counts = λ i below. subst (λ (o : ℕ). o + 8 * i + 8 ≤ n.base) (sym count_off) (image.front.counts i (subst (λ (n : ℕ). i < n) many below));
     some = subst (λ (b : ℕ). 0 < counts_in b) (sym bits) image.front.some;

@@ -15,7 +15,8 @@ use Rattle.qc_layout.specs.Disks.{ReadsAs, entry_at, bits_of}
 use Rattle.qc_layout.proofs.Starts.{alike_fields, header_from_start, passes_from_start}
 use Rattle.qc_layout.specs.Directory.{directory_in}
 use Rattle.qc_layout.proofs.Directories.{finds_as_spelled}
-use Rattle.core_node.proofs.Sources.{bare_passes}
+use Rattle.core_node.specs.Ends.{KeepsHeader}
+use Rattle.core_node.proofs.Sources.{bare_passes, one_said}
 use Rattle.toy_image.specs.declared.numbers.Numbers.{Numbers}
 use Rattle.toy_image.specs.Images.{store_of, IsImage, IsLike, GuestBytesAreFree, disk_in}
 use Rattle.toy_image.proofs.Alike.{IsSameForm, same_form}
@@ -65,6 +66,13 @@ module _ (n : Numbers) (disk file other : List ℕ) (image : IsImage n disk file
 
   again : Spells parts.Source other (record (image.source.header) { own_at = place_in (first_of_kind own_kind image.source.spelled.extensions) })
   again = (header_from_start parts.Source file other _ alike (whole_header file image.source.header image.source.spelled)).spells
+
+  -- and says the same
+  pub like_header : KeepsHeader file other
+  like_header h g before after =
+      let was = one_said file h image.source.header before image.source.spelled in
+      let now = one_said other g _ after again in
+      inl (now.0 ∙ sym was.0, now.1 ∙ sym was.1)
 
   bare : directory_in other ≡ None
   bare = (finds_as_spelled parts.Source other _ again).directory ∙ sym (finds_as_spelled parts.Source file _ image.source.spelled).directory ∙ image.bare

@@ -20,7 +20,7 @@ use Rattle.qc_layout.specs.Spelling.{Spells}
 use Rattle.qc_layout.specs.Room.{HasRoom, IsFreeFrom}
 use Rattle.image_model.specs.Space.{Store, Data, IsShapedStore, entries_in}
 use Rattle.image_model.specs.Images.{IsSourceOf}
-use Rattle.core_node.specs.Ends.{KeepsHeader}
+use Rattle.core_node.specs.Ends.{RewritesHeader}
 use Rattle.toy_image.specs.declared.numbers.Numbers.{Numbers}
 use Rattle.toy_image.specs.declared.image.Blocks.{Blocks}
 use Rattle.toy_image.specs.declared.image.NotLooked.{NotLooked}
@@ -46,8 +46,9 @@ pub record IsSuited (n : Numbers) : Type 0 where
   pub shape : IsShapedStore n.size (store_of n)
   pub near : n.base + n.size ≤ 2 ^ 62
 
--- header, counts and tables stand in front of the guest's bytes
+-- the first cluster, counts and tables stand in front of the guest's bytes
 pub record IsInFront (base kinds tables : ℕ) (file : List ℕ) : Type 0 where
+  pub cluster : 2 ^ bits_of file ≤ base
   pub head : start_length file ≤ base
   pub counts : (i : ℕ) → i < blocks_in file → (fields_of file).refcount_table_offset + 8 * i + 8 ≤ base
   pub some : 0 < counts_in (bits_of file)
@@ -152,7 +153,7 @@ HasNextEpoch header sector = (file written id : List ℕ) (epoch offset long : �
 pub record Raises (n : Numbers) (sector file : List ℕ) : Type 0 where
   pub long : 512 ≤ length file
   pub image : (disk : List ℕ) → IsImage n disk file → IsImage (raised n) disk (overlay file 0 sector)
-  pub header : KeepsHeader file (overlay file 0 sector)
+  pub header : RewritesHeader file (overlay file 0 sector)
 
 -- ---- missing blocks
 

@@ -5,8 +5,9 @@ ghost use Rattle.toy_core.specs.Toy as toys;
 ghost use Rattle.toy_core.proofs.Laws as laws;
 
 use core_events::{Answer, Event, ExportList, Memory};
-use core_node::{Node, NotClosed, NotOpened};
+use core_node::Node;
 use disk_model::{Depot, FileNo};
+use image_model::{CloseRefusal, OpenRefusal};
 use std::alloc::Global;
 use toy_core::Toy;
 
@@ -27,7 +28,7 @@ impl Node for Core {
 
     ghost keeps = { λ c. toys.Keeps c.toy };
 
-    fn open<D: Depot>(alloc: Global, depot: &mut D, file: FileNo) -> Result<Core, NotOpened> {
+    fn open<D: Depot>(alloc: Global, depot: &mut D, file: FileNo) -> Result<Core, OpenRefusal> {
         match Toy::begin(alloc, depot, file) {
             Ok(toy) => Ok(Core { toy }),
             Err(why) => Err(why),
@@ -51,14 +52,14 @@ impl Node for Core {
         false
     }
 
-    fn close<D: Depot>(self, depot: &mut D, answer: &mut Answer) -> Result<(), NotClosed> {
+    fn close<D: Depot>(self, depot: &mut D, answer: &mut Answer) -> Result<(), CloseRefusal> {
         answer.notices.items.clear();
-        if self.toy.broken.is_some() {
-            return Err(NotClosed::Broken);
+        if let Some(event) = self.toy.broken {
+            return Err(CloseRefusal::Broken(event));
         }
         match depot.sync(self.toy.source.file) {
             Ok(()) => Ok(()),
-            Err(_) => Err(NotClosed::Failed),
+            Err(_) => Err(CloseRefusal::Failed),
         }
     }
 

@@ -28,4 +28,4 @@ returns-in-Guest-clause-run g c = λ runs.
     (sym c.in-Guest.is) (c.serve.ensures.run runs)
 
 pub returns-in-Tick-clause-causes : goal.returns-in-Tick-clause-causes
-returns-in-Tick-clause-causes g c = λ runs. quiet_causes refl (λ whole. refl) (λ device. device)
+returns-in-Tick-clause-causes g c = λ runs. quiet_causes refl (λ whole. refl) (λ refused. refused) c.saturating_add-self.ensures

@@ -42,4 +42,5 @@ returns-in_default-work g c =
     }
 
 pub returns-in-Some-clause-causes : goal.returns-in-Some-clause-causes
-returns-in-Some-clause-causes g c = λ runs. denied_causes c.args.self.now (plain_request c.args.request.now) c.in-Some.errno _ _ _ (sym c.deny.ensures ∙ c.in-Some.is)
+returns-in-Some-clause-causes g c = λ runs.
+    denied_causes c.args.self.now (plain_request c.args.request.now) c.in-Some.errno _ _ _ (sym c.deny.ensures ∙ c.in-Some.is) c.saturating_add-self.ensures

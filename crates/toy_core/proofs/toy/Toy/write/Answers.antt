@@ -1,11 +1,11 @@
 use Rattle.std.proofs.Common.{inr}
 use Rattle.core_node.proofs.Causing.{quiet_causes, io_causes}
 use Rattle.std.proofs.Common.{◌+◌, ℕ, List, false, refl, sym, subst}
-use Rattle.disk_model.specs.World.{Writes, HasWritten}
+use Rattle.disk_model.specs.World.{Writes, HasWritten, FileFailed}
 use Rattle.core_events.specs.Views.{plain_request}
 use Rattle.plain_model.specs.Machine.{next_number}
 use Rattle.toy_core.specs.Toy.{IsBuilt}
-use Rattle.toy_core.proofs.Cases.{as_moved, wrote_steps, tore_steps, inside_write, long_bytes}
+use Rattle.toy_core.proofs.Cases.{failed_for, as_moved, wrote_steps, tore_steps, inside_write, long_bytes}
 use Rattle.toy_core.proofs.toy.Toy.write.Goals as goal
 
 pub returns-in-Ok-clause-steps : goal.returns-in-Ok-clause-steps
@@ -31,7 +31,11 @@ returns-in-Err-clause-steps g c = λ bytes runs told.
     (long_bytes t r false c.requires.work c.requires.whole inside) inside.range c.in-Err.ensures.cause.0 c.in-Err.ensures.cause.1)
 
 pub returns-in-Ok-clause-causes : goal.returns-in-Ok-clause-causes
-returns-in-Ok-clause-causes g c = λ bytes runs. quiet_causes refl (λ whole. refl) (λ device. device)
+returns-in-Ok-clause-causes g c = λ bytes runs. quiet_causes refl (λ whole. refl) (λ refused. refused) c.saturating_add-self.ensures
 
 pub returns-in-Err-clause-causes : goal.returns-in-Err-clause-causes
-returns-in-Err-clause-causes g c = λ bytes runs. io_causes (record { shared = c.in-Err.ensures.cause.0; own = inr c.in-Err.ensures.cause.1 }) (λ whole broke. c.in-Err.ensures.cause.1)
+returns-in-Err-clause-causes g c = λ bytes runs.
+    let failed : FileFailed c.args.self.now.source.file.0 (g.D.Outside.world c.args.depot.now) (g.D.Outside.world c.write_at.new.self) =
+    record { shared = c.in-Err.ensures.cause.0; own = inr c.in-Err.ensures.cause.1 } in
+    io_causes failed (failed_for c.args.self.now (plain_request c.args.request.now) c.requires.granted failed)
+    (λ whole broke. c.in-Err.ensures.cause.1) c.saturating_add-self.ensures
