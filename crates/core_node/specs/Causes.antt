@@ -40,8 +40,8 @@ RequestFailed before old new Tick = ⊥
 -- ---- of a job or view
 
 -- the job or view of this id has this target
-abbrev pub Runs : Shown → List ℕ → List ℕ → Type 0
-Runs before id target = ((j : ShownJob) × Contains before.jobs j × (j.id ≡ id) × (j.target ≡ target)) ⊎ ((v : ShownView) × Contains before.views v × (v.id ≡ id) × (v.target ≡ target))
+abbrev pub HasTarget : Shown → List ℕ → List ℕ → Type 0
+HasTarget before id target = ((j : ShownJob) × Contains before.jobs j × (j.id ≡ id) × (j.target ≡ target)) ⊎ ((v : ShownView) × Contains before.views v × (v.id ≡ id) × (v.target ≡ target))
 
 abbrev pub ended_id : Notice → List ℕ
 ended_id (Completed id total progress fault) = id
@@ -49,7 +49,7 @@ ended_id (Cancelled id total progress) = id
 
 -- a call on its own files failed: the source's, or its target's
 abbrev pub CopyFailed : Shown → World → World → List ℕ → Type 0
-CopyFailed before old new id = FileFailed before.file old new ⊎ ((target : List ℕ) × Runs before id target × TargetFailed before old new target)
+CopyFailed before old new id = FileFailed before.file old new ⊎ ((target : List ℕ) × HasTarget before id target × TargetFailed before old new target)
 
 -- a device failed under an action
 abbrev pub IsDeviceFailed : Reply → Type 0
