@@ -3,6 +3,7 @@
 ghost use Rattle.std.specs.Prelude.{◌≡◌, ◌⊎◌, ◌+◌, ◌^◌, ◌<◌, ◌≤◌, ℕ, List, [], ◌∷◌, ◌++◌, take, length, IsTrue, Some, None, option_map, IfOk, IfSome, MatchResult, OnOk, OnErr};
 ghost use Rattle.disk_model.specs.Files.{reading};
 ghost use Rattle.disk_model.specs.World.{World, versions, IsSound, IsGiven, Runs, nothing, reads_of, only_text, Writes, HasWritten, Syncs, HasSynced, IsMade, MayMake, FindCause, ReadCause, WriteCause, PrintCause, IsQuiet, PrintsPart};
+ghost use Rattle.disk_model.specs.declared.depot.WriteRefusal.TheVariants as refusals;
 
 /// A file, by the number that `find` or `make` of its depot gave.
 #[derive(Clone, Copy, Debug, PartialEq, Eq)]
@@ -11,6 +12,21 @@ pub struct FileNo(pub u32);
 /// A call on the outside failed.
 #[derive(Clone, Copy, Debug, PartialEq, Eq)]
 pub struct Failed;
+
+/// Why nothing more is written: no cluster is left for it, or a call on the file failed.
+#[derive(Clone, Copy, Debug, PartialEq, Eq)]
+pub enum WriteRefusal {
+    NoRoom,
+    Failed,
+}
+
+impl From<Failed> for WriteRefusal {
+    ghost from_gives = { λ _ e. e ≡ refusals.Failed };
+
+    fn from(_e: Failed) -> WriteRefusal {
+        WriteRefusal::Failed
+    }
+}
 
 /// What `make` found: a new, empty file, or one of that name that was there.
 #[derive(Clone, Copy, Debug, PartialEq, Eq)]

@@ -7,4 +7,4 @@
 
 mod depot;
 
-pub use depot::{Console, Depot, Failed, FileNo, Made, Outside};
+pub use depot::{Console, Depot, Failed, FileNo, Made, Outside, WriteRefusal};
