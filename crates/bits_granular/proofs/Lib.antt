@@ -1,3 +1,9 @@
+pub mod OneWord
+pub mod Rows
+pub mod Finding
+pub mod Counting
+pub mod FlagRows
+pub mod Parts
 pub mod Octets
 pub mod Marking
 pub mod Merging

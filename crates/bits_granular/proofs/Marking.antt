@@ -1,5 +1,5 @@
 -- Granules that are put into a set one after another, and those that meet a range.
-use Rattle.std.proofs.Common.{◌≡◌, ℕ, ◌+◌, ◌-◌, ◌*◌, ◌/◌, ◌<◌, ◌≤◌, min, max, Bool, true, false, ◌||◌, List, length, set, inl, inr, refl, sym, ◌∙◌, arith, rules}
+use Rattle.std.proofs.Common.{◌≡◌, ℕ, ◌+◌, ◌-◌, ◌*◌, ◌/◌, ◌<◌, ◌≤◌, min, max, Bool, true, false, ◌||◌, List, length, inl, inr, refl, sym, ◌∙◌, arith, rules}
 use Rattle.std.proofs.lemmas.Bool.{cases_lt, lt-ltb, le-ltb, or_right}
 use Rattle.std.specs.Prelude.{nat_lt}
 use Rattle.span_algebra.specs.Timelines.{Extent}
@@ -8,12 +8,6 @@ use Rattle.bitmap_model.specs.Granules.{granules_in, is_in, meets, widened, IsFi
 use Rattle.bitmap_model.proofs.Sets.{set_of-from, set_of-same}
 use Rattle.bitmap_model.proofs.Places.{place_below, ends_before, ends_after, past_end}
 use Rattle.std.proofs.lemmas.Grind.{common_steps}
-
-pub filled_none : (old : List Bool) (first : ℕ) → IsFilled old old first first
-filled_none old first = search rules
-
-pub filled_more : (old new : List Bool) (first past : ℕ) → first ≤ past → past < length new → IsFilled old new first past → IsFilled old (set new past true) first (past + 1)
-filled_more old new first past order below m = search rules
 
 pub or_none : (x y : Bool) → y ≡ false → x ≡ (x || y)
 or_none true y none = refl

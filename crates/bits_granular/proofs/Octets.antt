@@ -1,38 +1,15 @@
 -- Bits in bytes.
-use Rattle.std.proofs.Common.{◌≡◌, ◌≢◌, ℕ, ◌+◌, ◌-◌, ◌*◌, ◌/◌, ◌%◌, ◌^◌, ◌<◌, ◌≤◌, true, List, length, get_or, set, inl, inr, sym, ap, ◌∙◌, arith, get_or-set_same, get_or-set_other, rules}
-use Rattle.std.specs.Prelude.{◌==◌, bit_or}
+use Rattle.std.proofs.Common.{◌≡◌, ◌≢◌, ℕ, false, ◌&&◌, ◌+◌, ◌-◌, ◌*◌, ◌/◌, ◌%◌, ◌^◌, ◌<◌, ◌≤◌, List, length, get_or, inl, inr, sym, ap, ◌∙◌, arith, rules}
+use Rattle.std.specs.Prelude.{◌==◌, bit_or, nat_lt}
 use Rattle.std.specs.Int.{bit_at, w8, trailing_zeros}
 use Rattle.std.proofs.lemmas.Nat.{mod_below, shr-shr, div-add-mod', shr_le}
-use Rattle.std.proofs.lemmas.Nat.Bits.{bit_at_set_same, bit_at_set_other, bit_at_above, bit_at-zero, bit_at-trailing_zeros}
-use Rattle.std.proofs.lemmas.Bool.{cases_lt, cases_eq, eq-eqb, eqb-true}
+use Rattle.std.proofs.lemmas.Nat.Bits.{bit_at_above, bit_at-zero, bit_at-trailing_zeros}
+use Rattle.std.proofs.lemmas.Bool.{cases_lt, eq-eqb, eqb-true}
 use Rattle.std.proofs.lemmas.List.{get_or_past}
+use Rattle.bits_granular.specs.Words.{has}
 use Rattle.bits_granular.specs.Bytes.{bit_of, HasTail}
+use Rattle.bits_granular.proofs.OneWord.{has-zero, has-with_byte}
 use Rattle.std.proofs.lemmas.Grind.{common_steps}
-
--- the byte with one more bit
-abbrev with_bit : List ℕ → ℕ → List ℕ
-with_bit bytes n = set bytes (n / 8) (bit_or (get_or bytes (n / 8) 0) (1 * 2 ^ (n % 8) % 256))
-
-pub with_bit-same : (bytes : List ℕ) (n : ℕ) → n / 8 < length bytes → bit_of (with_bit bytes n) n ≡ true
-with_bit-same bytes n inside =
-    let byte : ℕ = bit_or (get_or bytes (n / 8) 0) (1 * 2 ^ (n % 8) % 256) in
-    let there : get_or (set bytes (n / 8) byte) (n / 8) 0 ≡ byte = get_or-set_same bytes (n / 8) byte 0 inside in
-    eq-eqb (bit_at (get_or (set bytes (n / 8) byte) (n / 8) 0) (n % 8)) 1
-    (ap (λ (x : ℕ). bit_at x (n % 8)) there ∙ bit_at_set_same w8 (get_or bytes (n / 8) 0) (n % 8) (mod_below n 8 (omega arith)))
-
-pub with_bit-other : (bytes : List ℕ) (n k : ℕ) → n / 8 < length bytes → k ≢ n → bit_of (with_bit bytes n) k ≡ bit_of bytes k
-with_bit-other bytes n k inside other =
-    let byte : ℕ = bit_or (get_or bytes (n / 8) 0) (1 * 2 ^ (n % 8) % 256) in
-    elim (cases_eq (k / 8) (n / 8)) [
-      | inl same ↦
-          let apart : k % 8 ≢ n % 8 = λ (e : k % 8 ≡ n % 8). other (omega (arith, div-add-mod' k 8, div-add-mod' n 8)) in
-          let there : get_or (set bytes (n / 8) byte) (k / 8) 0 ≡ byte =
-          ap (λ (i : ℕ). get_or (set bytes (n / 8) byte) i 0) same ∙ get_or-set_same bytes (n / 8) byte 0 inside in
-          ap (λ (x : ℕ). bit_at x (k % 8) == 1) there
-          ∙ (ap (λ (x : ℕ). x == 1) (bit_at_set_other w8 (get_or bytes (n / 8) 0) (n % 8) (mod_below n 8 (omega arith)) (k % 8) apart)
-          ∙ ap (λ (i : ℕ). bit_at (get_or bytes i 0) (k % 8) == 1) (sym same))
-      | inr apart ↦ ap (λ (x : ℕ). bit_at x (k % 8) == 1) (get_or-set_other bytes (n / 8) (k / 8) byte 0 apart)
-    ]
 
 zero_or_one : (n : ℕ) → n ≡ 0 → n ≡ 1 → ⊥
 zero_or_one n none one = omega arith
@@ -77,3 +54,42 @@ tail_in_other bytes n q after small some =
 pub tail_elsewhere : (bytes : List ℕ) (n : ℕ) → get_or bytes (n / 8) 0 / 2 ^ (n % 8) ≡ 0 → HasTail n bytes
     → (q : ℕ) × (n / 8 < q) × (q < length bytes) × (get_or bytes q 0 ≢ 0)
 tail_elsewhere bytes n none t = grind (arith, common_steps, eqb-true, zero_or_one, bit_at-zero, cases_lt, get_or_past, div-add-mod', mod_below, none_from)
+
+-- ---- words of bytes
+
+bit_in_byte : (bytes : List ℕ) (n p i : ℕ) → p * 8 ≤ i → i < p * 8 + 8 → bit_of bytes (n * 64 + i) ≡ has (get_or bytes (n * 8 + p) 0) (i - p * 8)
+bit_in_byte bytes n p i from below =
+    let q : (n * 64 + i) / 8 ≡ n * 8 + p = omega arith in
+    let r : (n * 64 + i) % 8 ≡ i - p * 8 = omega arith in
+    ap (λ (j : ℕ). has (get_or bytes j 0) ((n * 64 + i) % 8)) q ∙ ap (λ (j : ℕ). has (get_or bytes (n * 8 + p) 0) j) r
+
+byte_past : (x i : ℕ) → x < 256 → 8 ≤ i → has x i ≡ false
+byte_past x i small past = ap (λ (b : ℕ). b == 1) (bit_at_above x 8 i small past)
+
+no_bit : (bytes : List ℕ) (n p i : ℕ) → length bytes ≤ n * 8 + p → p * 8 ≤ i → bit_of bytes (n * 64 + i) ≡ false
+no_bit bytes n p i past from =
+    let none : get_or bytes ((n * 64 + i) / 8) 0 ≡ 0 = get_or_past bytes ((n * 64 + i) / 8) 0 (omega arith) in
+    ap (λ (x : ℕ). has x ((n * 64 + i) % 8)) none ∙ has-zero ((n * 64 + i) % 8)
+
+-- a byte is put in its place in a word
+pub word_with_byte : (bytes : List ℕ) (n p x i : ℕ) → p < 8 → i < 64 → get_or bytes (n * 8 + p) 0 < 256 → has x i ≡ (nat_lt i (p * 8) && bit_of bytes (n * 64 + i))
+    → has (bit_or x (get_or bytes (n * 8 + p) 0 * 2 ^ (p * 8) % 2 ^ 64)) i ≡ (nat_lt i ((p + 1) * 8) && bit_of bytes (n * 64 + i))
+word_with_byte bytes n p x i inside here small before =
+    has-with_byte x (get_or bytes (n * 8 + p) 0) p i small inside here
+    ∙ elim (cases_lt i (p * 8)) [
+      | inl below ↦ grind (arith, common_steps, before)
+      | inr from ↦ elim (cases_lt i (p * 8 + 8)) [
+        | inl within ↦ let e : bit_of bytes (n * 64 + i) ≡ has (get_or bytes (n * 8 + p) 0) (i - p * 8) = bit_in_byte bytes n p i from within in grind (arith, common_steps, before)
+        | inr past ↦ let e : has (get_or bytes (n * 8 + p) 0) (i - p * 8) ≡ false = byte_past (get_or bytes (n * 8 + p) 0) (i - p * 8) small (omega arith) in grind (arith, common_steps, before)
+      ]
+    ]
+
+-- or there is none
+pub word_without_byte : (bytes : List ℕ) (n p x i : ℕ) → length bytes ≤ n * 8 + p → has x i ≡ (nat_lt i (p * 8) && bit_of bytes (n * 64 + i))
+    → has x i ≡ (nat_lt i ((p + 1) * 8) && bit_of bytes (n * 64 + i))
+word_without_byte bytes n p x i past before =
+    before
+    ∙ elim (cases_lt i (p * 8)) [
+      | inl below ↦ grind (arith, common_steps)
+      | inr from ↦ let e : bit_of bytes (n * 64 + i) ≡ false = no_bit bytes n p i past from in grind (arith, common_steps)
+    ]

@@ -1,11 +1,12 @@
-//! Sets of granules, one truth value for each.
+//! Sets of granules.
 
 ghost use Rattle.std.specs.Prelude.{◌≡◌, ◌≢◌, ℕ, ◌⊎◌, ◌-◌, length, ◌↔◌, ◌+◌, ◌*◌, ◌^◌, ◌<◌, ◌≤◌, ◌++◌, ◌∷◌, min, vec_len, vec_capacity, false, IsTrue, IfOk, IfErr, OnOk, IfSome, IsNone, IsErrOf};
-ghost use Rattle.span_algebra.specs.Spans.{granule};
-ghost use Rattle.bitmap_model.specs.Granules.{is_granularity, granules_in, IsAllowed, is_in, is_clean, count_of, IsNext, HasNoNext, IsFilled, IsShaped, none_of, cleared, marked, merged};
+ghost use Rattle.bitmap_model.specs.Granules.{is_granularity, granules_in, IsAllowed, is_in, is_clean, count_of, IsNext, HasNoNext, IsShaped, none_of, cleared, marked, merged};
 ghost use Rattle.bitmap_model.specs.Runs.{between, first_runs, dirty_runs, count_runs};
+ghost use Rattle.bits_granular.specs.Words.{granules_from};
 ghost use Rattle.bits_granular.specs.Bytes.{bytes_for, AreEnough, HasTail, IsSpelling, spelled};
 
+use crate::flags::Flags;
 use crate::spelling::{has_tail, read_bits, write_bits};
 use span_algebra::{Bytes, Run, Runs};
 use std::alloc::{AllocError, Global};
@@ -38,7 +39,7 @@ const RUNS: usize = 1024;
 pub struct GranularBits {
     size: u64,
     granularity: u64,
-    dirty: Vec<bool>,
+    dirty: Flags,
 }
 
 impl Model for GranularBits {
@@ -46,9 +47,9 @@ impl Model for GranularBits {
 
     ghost Value = { GranuleSet };
 
-    ghost view = { λ b. record { size = b.size; granularity = b.granularity; set = b.dirty.items } };
+    ghost view = { λ b. record { size = b.size; granularity = b.granularity; set = b.dirty } };
 
-    ghost invariant = { λ b. IsShaped (record { size = b.size; granularity = b.granularity; set = b.dirty.items }) };
+    ghost invariant = { λ b. IsShaped (record { size = b.size; granularity = b.granularity; set = b.dirty }) };
 }
 
 // Whether a granularity is a power of two from 512 to 2^31.
@@ -77,17 +78,6 @@ fn count_granules(size: u64, granularity: u64) -> Result<usize, BitsRefusal>
     Ok(count as usize)
 }
 
-// Sets the flags from place `first` to before place `past`.
-fn set_flags(flags: &mut [bool], first: usize, past: usize)
-    requires order { first ≤ past }
-    requires inside { past ≤ length flags.old }
-    ensures { IsFilled flags.old flags.new first past }
-{
-    for place in first..past {
-        flags[place] = true;
-    }
-}
-
 impl GranularBits {
     /// The set with no granule of a disk of `size` bytes, in granules of `granularity` bytes each. A granularity that is no
     /// power of two from 512 to 2^31 is refused, then more than 2^27 granules; `Memory` may come in place of Ok.
@@ -101,7 +91,7 @@ impl GranularBits {
         ensures no_bytes { (result ≢ Err BitsRefusal.BadLength) × (result ≢ Err BitsRefusal.BadTail) }
     {
         let count = count_granules(size, granularity)?;
-        let dirty = vec![in alloc; false; count].map_err(|_| BitsRefusal::Memory)?;
+        let dirty = Flags::none(alloc, count).map_err(|_| BitsRefusal::Memory)?;
         Ok(GranularBits {
             size,
             granularity,
@@ -156,18 +146,21 @@ impl GranularBits {
         }
         let first = at / self.granularity;
         let past = (at + length).div_ceil(self.granularity);
-        set_flags(self.dirty.as_mut_slice(), first as usize, past as usize);
+        self.dirty.fill(first as usize, past as usize);
     }
 
-    // Adds each granule that meets a granule of some granularity.
-    fn mark_granule(&mut self, granularity: u64, number: u64)
-        requires { number * granularity < self.old.size }
-        ensures { self.new ≡ marked self.old (granule granularity number) }
+    // Adds each granule that meets one of the granules, of some size, from number `first` to before number `past`.
+    fn mark_granules(&mut self, granularity: u64, first: u64, past: u64)
+        requires order { first < past }
+        requires few { past ≤ 2 ^ 27 }
+        requires small { granularity ≤ 2 ^ 31 }
+        requires inside { first * granularity < self.old.size }
+        ensures { self.new ≡ marked self.old (granules_from granularity first past) }
     {
         let size = self.size;
-        let at = number * granularity;
-        let length = granularity.min(size - at);
-        self.mark(at, length);
+        let at = first * granularity;
+        let length = (past - first) * granularity;
+        self.mark(at, length.min(size - at));
     }
 
     /// Adds each granule that meets a granule of the other set, whatever the two granularities.
@@ -175,10 +168,14 @@ impl GranularBits {
         requires { other.now.size ≡ self.old.size }
         ensures { self.new ≡ merged self.old other.now }
     {
-        for number in 0..other.dirty.len() {
-            if other.dirty[number] {
-                self.mark_granule(other.granularity, number as u64);
-            }
+        if self.granularity == other.granularity {
+            self.dirty.join(&other.dirty);
+            return;
+        }
+        let mut from = 0;
+        while let Some(first) = other.next_dirty(from) {
+            from = other.change_after(first);
+            self.mark_granules(other.granularity(), first, from);
         }
     }
 
@@ -186,14 +183,14 @@ impl GranularBits {
     pub fn clear_all(&mut self)
         ensures { self.new ≡ cleared self.old }
     {
-        self.dirty.as_mut_slice().fill(false);
+        self.dirty.clear();
     }
 
     /// Whether a granule is in the set; none past the last one is.
     pub fn is_dirty(&self, granule: u64) -> bool
         ensures { result ≡ is_in self.now.set granule }
     {
-        granule < self.dirty.len() as u64 && self.dirty[granule as usize]
+        granule < self.dirty.len() as u64 && self.dirty.get(granule as usize)
     }
 
     /// The least granule from `from` on that is in the set.
@@ -201,12 +198,11 @@ impl GranularBits {
         ensures found { IfSome result (IsNext (is_in self.now.set) from) }
         ensures none { IsNone result ↔ HasNoNext (is_in self.now.set) from }
     {
-        for granule in from..self.dirty.len() as u64 {
-            if self.dirty[granule as usize] {
-                return Some(granule);
-            }
+        if from >= self.dirty.len() as u64 {
+            return None;
         }
-        None
+        let granule = self.dirty.next_set(from as usize)?;
+        Some(granule as u64)
     }
 
     /// The least granule from `from` on that isn't in the set.
@@ -214,12 +210,11 @@ impl GranularBits {
         ensures found { IfSome result (IsNext (is_clean self.now.set) from) }
         ensures none { IsNone result ↔ HasNoNext (is_clean self.now.set) from }
     {
-        for granule in from..self.dirty.len() as u64 {
-            if !self.dirty[granule as usize] {
-                return Some(granule);
-            }
+        if from >= self.dirty.len() as u64 {
+            return None;
         }
-        None
+        let granule = self.dirty.next_unset(from as usize)?;
+        Some(granule as u64)
     }
 
     // The first granule after a granule of the disk that differs from it, or how many granules there are.
@@ -283,7 +278,7 @@ impl GranularBits {
     pub fn count(&self) -> u64
         ensures { result ≡ count_of self.now.set }
     {
-        self.dirty.iter().filter(|dirty| **dirty).count() as u64
+        self.dirty.count()
     }
 
     /// The size of the disk in bytes.
@@ -309,7 +304,7 @@ impl GranularBits {
         Ok(GranularBits {
             size: self.size,
             granularity: self.granularity,
-            dirty: self.dirty.as_slice().to_vec(alloc)?,
+            dirty: self.dirty.copy(alloc)?,
         })
     }
 
@@ -318,7 +313,7 @@ impl GranularBits {
         ensures { IfOk result (λ bytes. IsSpelling self.now.set bytes.items.items) }
     {
         Ok(Bytes {
-            items: write_bits(alloc, self.dirty.as_slice())?,
+            items: write_bits(alloc, &self.dirty)?,
         })
     }
 }

@@ -1,17 +1,18 @@
-use Rattle.std.proofs.Common.{◌≡◌, Bool, List, [], ◌∷◌, ◌++◌, length, length-append, arith, sym, ◌∙◌, ap}
-use Rattle.bitmap_model.specs.Granules.{set_of}
+use Rattle.std.proofs.Common.{◌∙◌, arith}
 use Rattle.bits_granular.specs.Bytes.{bit_of}
-use Rattle.bitmap_model.proofs.Sets.{set_of_none, set_of_more}
+use Rattle.bits_granular.proofs.Parts.{answers_more, read_all}
 use Rattle.bits_granular.proofs.spelling.read_bits.Goals as goal
 
-pub loop-n-init : goal.loop-n-init
-loop-n-init c = (ap length c.in_ok-flags.ensures.items, c.in_ok-flags.ensures.items ∙ sym (set_of_none (bit_of c.args.bytes.now)))
+pub loop-number-preserved : goal.loop-number-preserved
+loop-number-preserved c = record {
+  count = c.put_word.ensures.count ∙ c.loop-number.invariant.count;
+  bits = λ k. answers_more c.loop-number.flags c.put_word.new.self c.loop-number.number c.word_of.result k (bit_of c.args.bytes.now) c.put_word.ensures c.word_of.ensures (c.loop-number.invariant.bits k);
+}
 
-pub loop-n-preserved : goal.loop-n-preserved
-loop-n-preserved c =
-    let items : c.push.new.self.items ≡ c.loop-n.flags.items ++ c.bit.result ∷ [] = c.in_ok-push.ensures.items in (
-      omega (arith, ap length items, length-append {A = Bool}),
-      items
-          ∙ (ap (λ (xs : List Bool). xs ++ c.bit.result ∷ []) c.loop-n.invariant.1
-          ∙ (ap (λ (b : Bool). set_of c.loop-n.n (bit_of c.args.bytes.now) ++ b ∷ []) c.bit.ensures ∙ sym (set_of_more c.loop-n.n (bit_of c.args.bytes.now)))),
-    )
+pub returns-clause-count : goal.returns-clause-count
+returns-clause-count c = c.loop-number.invariant.count
+
+pub returns-clause-flags : goal.returns-clause-flags
+returns-clause-flags c =
+    read_all c.loop-number.flags c.args.count c.loop-number.number (bit_of c.args.bytes.now) c.loop-number.invariant.count (omega (arith, c.loop-number-test.false, c.div_ceil-number-end.ensures))
+    c.loop-number.invariant.bits

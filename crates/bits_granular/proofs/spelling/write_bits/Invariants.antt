@@ -1,8 +1,10 @@
-use Rattle.std.proofs.Common.{◌≡◌, ℕ, ◌&&◌, length}
-use Rattle.std.specs.Prelude.{nat_lt}
+use Rattle.std.proofs.Common.{◌≡◌, ℕ, ◌*◌, ◌<◌, length}
 use Rattle.bitmap_model.specs.Granules.{is_in}
-use Rattle.bits_granular.specs.Bytes.{bit_of, bytes_for}
+use Rattle.bits_granular.specs.Bytes.{bit_of}
 use Rattle.bits_granular.proofs.spelling.write_bits.Given as goal
 
-abbrev pub invariant-loop-n : goal.invariant-loop-n
-invariant-loop-n l = record { count : length l.bytes.items ≡ bytes_for (length l.flags); bits : (k : ℕ) → bit_of l.bytes.items k ≡ (nat_lt k l.n && is_in l.flags k) }
+abbrev pub invariant-loop-number : goal.invariant-loop-number
+invariant-loop-number l = record {
+  count : length l.bytes.items ≡ l.number;
+  bits : (k : ℕ) → k < l.number * 8 → bit_of l.bytes.items k ≡ is_in l.flags k;
+}

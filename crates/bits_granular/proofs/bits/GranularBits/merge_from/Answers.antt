@@ -1,34 +1,30 @@
-use Rattle.std.proofs.Common.{arith, ap, sym, ◌∙◌, ℕ, ◌<◌, ◌≡◌, false, length}
-use Rattle.span_algebra.specs.Spans.{granule}
-use Rattle.bitmap_model.specs.Granules.{GranuleSet, is_in, marked, merged}
-use Rattle.bitmap_model.proofs.Sets.{get_or-any}
-use Rattle.bits_granular.proofs.Merging.{merged_none, merged_with, merged_without, merged_all, merged_below}
-use Rattle.bits_granular.proofs.bits.GranularBits.merge_from.Goals.{then-index, else-index}
+use Rattle.std.proofs.Common.{◌≡◌, ℕ, ap, ◌∙◌, refl, arith}
+use Rattle.bitmap_model.specs.Granules.{GranuleSet, marked, merged}
+use Rattle.bitmap_model.proofs.Places.{granularity-least}
+use Rattle.bits_granular.specs.Words.{granules_from}
+use Rattle.bits_granular.proofs.Merging.{merged_none, merged_on, merged_end, merged_same}
 use Rattle.bits_granular.proofs.bits.GranularBits.merge_from.Goals as goal
 
-pub loop-number-init : goal.loop-number-init
-loop-number-init c = merged_none c.args.self.now c.other.inside.granularity c.other.inside.dirty.items
+pub returns-then-self-other : goal.returns-then-self-other
+returns-then-self-other c =
+    let own : GranuleSet = record { size = c.self.inside.size; granularity = c.self.inside.granularity; set = c.self.inside.dirty } in
+    let theirs : GranuleSet = record { size = c.other.inside.size; granularity = c.other.inside.granularity; set = c.other.inside.dirty } in
+    merged_same own theirs c.join.new.self (omega (arith, granularity-least c.self.inside.granularity c.self.invariant.lawful)) c.if-self-other.true c.join.ensures
+    ∙ (ap (λ (s : GranuleSet). merged s theirs) c.self.view_is ∙ ap (λ (o : GranuleSet). merged c.args.self.now o) c.other.view_is)
 
-pub loop-number-preserved : goal.loop-number-preserved
-loop-number-preserved c =
-    let inside : c.loop-number.number < length c.other.inside.dirty.items = omega (arith, c.len-number-end.ensures) in
-    let is : is_in c.other.inside.dirty.items c.loop-number.number ≡ c.index.result.now = get_or-any c.other.inside.dirty.items c.loop-number.number c.index.result.now false inside ∙ sym c.index.ensures in
-    elim c.if-index.branch [
-      | then-index w ↦
-          w.self-is
-          ∙ (w.mark_granule.ensures
-          ∙ (ap (λ (s : GranuleSet). marked s (granule c.other.inside.granularity c.loop-number.number)) c.loop-number.invariant
-          ∙ merged_with c.args.self.now c.other.inside.granularity c.other.inside.dirty.items c.loop-number.number (is ∙ w.if-index.true)))
-      | else-index w ↦
-          w.self-is
-          ∙ (c.loop-number.invariant ∙ merged_without c.args.self.now c.other.inside.granularity c.other.inside.dirty.items c.loop-number.number (is ∙ w.if-index.false))
-    ]
+pub loop-first-init : goal.loop-first-init
+loop-first-init c = record { merged = merged_none c.args.self.now c.args.other.now.granularity c.args.other.now.set; within = omega arith }
+
+pub loop-first-preserved : goal.loop-first-preserved
+loop-first-preserved c =
+    let size : c.self.inside.granularity ≡ c.args.self.now.granularity = ap (λ (s : GranuleSet). s.granularity) c.self.view_is in
+    record {
+      merged = merged_on c.args.self.now c.loop-first.self c.mark_granules.new.self c.args.other.now.granularity c.args.other.now.set c.loop-first.from c.in-Some.first c.change_after-from.result
+          (omega (arith, size, granularity-least c.self.inside.granularity c.self.invariant.lawful)) (omega (arith, granularity-least c.args.other.now.granularity c.granularity.ensures.shaped.lawful))
+          c.in-Some.ensures.found c.change_after-from.ensures.after c.change_after-from.ensures.same c.loop-first.invariant.merged
+          (c.mark_granules.ensures ∙ ap (λ (h : ℕ). marked c.loop-first.self (granules_from h c.in-Some.first c.change_after-from.result)) c.granularity.ensures.granularity);
+      within = c.change_after-from.ensures.within;
+    }
 
 pub returns : goal.returns
-returns c =
-    let all : c.loop-number.number ≡ length c.other.inside.dirty.items = omega (arith, c.len-number-end.ensures) in
-    let other : GranuleSet = record { size = c.other.inside.size; granularity = c.other.inside.granularity; set = c.other.inside.dirty.items } in
-    c.loop-number.invariant
-    ∙ (ap (λ (n : ℕ). merged_below c.args.self.now c.other.inside.granularity c.other.inside.dirty.items n) all
-    ∙ (merged_all c.args.self.now other
-    ∙ ap (λ (o : GranuleSet). merged c.args.self.now o) c.other.view_is))
+returns c = merged_end c.args.self.now c.loop-first.self c.args.other.now c.loop-first.from (c.in_default.ensures.none.0 refl) c.loop-first.invariant.within c.loop-first.invariant.merged
