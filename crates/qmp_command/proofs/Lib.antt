@@ -1,0 +1,6 @@
+pub mod Looking
+pub mod Giving
+pub mod Acting
+pub mod Commanding
+pub mod Whole
+pub mod Computing
