@@ -1,0 +1,4 @@
+pub mod Sets
+pub mod Inside
+pub mod Pool
+pub mod Laws
