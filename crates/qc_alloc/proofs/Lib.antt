@@ -1,0 +1,17 @@
+pub mod Numbers
+pub mod Resting
+pub mod Settles
+pub mod Coded
+pub mod Grown
+pub mod Raising
+pub mod Sizes
+pub mod Valid
+pub mod Passing
+pub mod Layouts
+pub mod Claiming
+pub mod Noting
+pub mod Finding
+pub mod Reading
+pub mod Refcounts
+pub mod Opened
+pub mod Pooled

@@ -1,0 +1,173 @@
+-- What holds of every pool holds after a claim, a taking and a giving back.
+use Rattle.std.proofs.Common.{◌≡◌, ◌≢◌, ℕ, ◌+◌, ◌*◌, ◌^◌, ◌<◌, ◌≤◌, List, [], ◌∷◌, length, min, slice_index, filter, None, Result, Ok, Err, OnOk, OnErr, Bool, true, false, not, ◌&&◌, inl, inr, refl, sym, ap, subst, ◌∙◌, arith}
+use Rattle.std.specs.Prelude.{◌==◌}
+use Rattle.std.specs.List.{All}
+use Rattle.std.proofs.lemmas.Bool.{eq-eqb, cases_Bool, cases_lt}
+use Rattle.std.proofs.lemmas.List.Elements.{All-filter, All-nil, All-cons, All-head, All-tail}
+use Rattle.bitmap_model.specs.Granules.{is_in}
+use Rattle.bitmap_model.proofs.Sets.{is_in-set_of, length-set_of}
+use Rattle.cluster_pool.specs.Sets.{with_member, without_member}
+use Rattle.qc_layout.specs.Disks.{place_of, counts_in}
+use Rattle.qc_alloc.specs.declared.clusters.Clusters.TheInside.{Inside}
+use Rattle.qc_alloc.specs.declared.refusals.ClusterRefusal.{ClusterRefusal}
+use Rattle.qc_alloc.specs.Inside.{IsInside}
+use Rattle.cluster_pool.specs.Pool.{Pool, claim_refusal, IsPool, IsReady, AreRising, claimed, given_back, HasTaken}
+use Rattle.qc_alloc.proofs.Noting.{length-with, in_other, in_past}
+use Rattle.qc_alloc.proofs.Claiming.{claimed_below}
+
+-- ---- some of a list
+
+rising_filter : (t : ℕ → Bool) (xs : List ℕ) → AreRising xs → AreRising (filter t xs)
+rising_filter t [] are = tt
+rising_filter t (x ∷ xs) are = elim (cases_Bool (t x)) [
+  | inl kept ↦ rw kept (All-filter t (λ m. x < m) xs are.0, rising_filter t xs are.1)
+  | inr gone ↦ rw gone (rising_filter t xs are.1)
+]
+
+all_kept : (P Q : ℕ → Type 0) (t : ℕ → Bool) → ((m : ℕ) → P m → t m ≡ true → Q m) → (xs : List ℕ) → All P xs → All Q (filter t xs)
+all_kept P Q t so [] are = All-nil Q
+all_kept P Q t so (x ∷ xs) are = elim (cases_Bool (t x)) [
+  | inl kept ↦ rw kept (All-cons Q x (filter t xs) (so x (All-head P x xs are) kept) (all_kept P Q t so xs (All-tail P x xs are)))
+  | inr gone ↦ rw gone (all_kept P Q t so xs (All-tail P x xs are))
+]
+
+fewer : (t : ℕ → Bool) (xs : List ℕ) → length (filter t xs) ≤ length xs
+fewer t [] = omega arith
+fewer t (x ∷ xs) = let rest = fewer t xs in elim (cases_Bool (t x)) [ inl kept ↦ rw kept (omega (arith, rest)) | inr gone ↦ rw gone (omega (arith, rest)) ]
+
+-- ---- one member less
+
+length-without : (set : List Bool) (k : ℕ) → length (without_member set k) ≡ length set
+unfolding without_member
+length-without set k = length-set_of (length set) (λ j. not (j == k) && is_in set j)
+
+and_false : (a b : Bool) → b ≡ false → (a && b) ≡ false
+and_false true b e = e
+and_false false b e = refl
+
+still_out : (set : List Bool) (k j : ℕ) → is_in set j ≡ false → is_in (without_member set k) j ≡ false
+unfolding without_member
+still_out set k j out = elim (cases_lt j (length set)) [
+  | inl below ↦ is_in-set_of (length set) (λ i. not (i == k) && is_in set i) j below ∙ and_false (not (j == k)) (is_in set j) out
+  | inr past ↦ in_past (without_member set k) j (let e = length-without set k in omega arith)
+]
+
+-- ---- pools
+
+other_than : (m k : ℕ) → not (m == k) ≡ true → m ≢ k
+other_than m k t e = let f : not (m == k) ≡ false = ap not (eq-eqb m k e) in absurd (cc)
+
+pub pool_claimed : (p : Pool) (k : ℕ) → IsPool p → IsPool (claimed p k)
+pool_claimed p k is = record {
+  low = is.low;
+  high = is.high;
+  few = is.few;
+  spoken = length-with p.spoken k ∙ is.spoken;
+  order = is.order;
+  found = is.found;
+  linked = is.linked;
+  ready = all_kept (IsReady p) (IsReady (claimed p k)) (λ m. not (m == k))
+      (λ m r t. record { below = r.below; reach = r.reach; unspoken = in_other p.spoken k m (other_than m k t) ∙ r.unspoken; linked = r.linked; differs = r.differs }) p.ready is.ready;
+  rising = rising_filter (λ m. not (m == k)) p.ready is.rising;
+  at_once = let less = fewer (λ m. not (m == k)) p.ready in let most = is.at_once in omega (arith, less, most);
+}
+
+pub pool_given : (p : Pool) (k : ℕ) → IsPool p → IsPool (given_back p k)
+pool_given p k is = record {
+  low = is.low;
+  high = is.high;
+  few = is.few;
+  spoken = length-without p.spoken k ∙ is.spoken;
+  order = is.order;
+  found = is.found;
+  linked = is.linked;
+  ready = λ j d below. let r = is.ready j d below in record { below = r.below; reach = r.reach; unspoken = still_out p.spoken k _ r.unspoken; linked = r.linked; differs = r.differs };
+  rising = is.rising;
+  at_once = is.at_once;
+}
+
+pub pool_taken : (p q : Pool) (k : ℕ) → IsPool p → HasTaken p q k → IsPool q
+pool_taken p q k is taken =
+    let rest : List ℕ = taken.rest in
+    let P : List ℕ → Type 0 = λ ks. All (IsReady p) ks in
+    let ready : All (IsReady p) (k ∷ rest) = subst P taken.first is.ready in
+    let rising : AreRising (k ∷ rest) = subst AreRising taken.first is.rising in
+    let most = is.at_once in
+    let count = ap (λ (ks : List ℕ). length ks) taken.first in
+    let Q : Pool → Type 0 = IsPool in
+    let whole : IsPool (record p { ready = rest; spoken = with_member p.spoken k }) = record {
+      low = is.low;
+      high = is.high;
+      few = is.few;
+      spoken = length-with p.spoken k ∙ is.spoken;
+      order = is.order;
+      found = is.found;
+      linked = is.linked;
+      ready = λ j d below.
+          let r = All-tail (IsReady p) k rest ready j d below in
+          let up = rising.0 j d below in
+          record { below = r.below; reach = r.reach; unspoken = in_other p.spoken k _ (λ e. absurd (omega (arith, up, e))) ∙ r.unspoken; linked = r.linked; differs = r.differs };
+      rising = rising.1;
+      at_once = omega (arith, most, count);
+    } in
+    subst Q (sym taken.is) whole
+
+-- a cluster that is taken is a prepared one
+taken_unspoken : (p q : Pool) (k : ℕ) → IsPool p → HasTaken p q k → ((j : ℕ) → p.prepared ≤ j → is_in p.spoken j ≡ false) → (j : ℕ) → p.prepared ≤ j → is_in q.spoken j ≡ false
+taken_unspoken p q k is taken unspoken j high =
+    let P : List ℕ → Type 0 = λ ks. All (IsReady p) ks in
+    let ready : All (IsReady p) (k ∷ taken.rest) = subst P taken.first is.ready in
+    let below = (All-head (IsReady p) k taken.rest ready).below in
+    let order = is.order in
+    ap (λ (x : Pool). is_in x.spoken j) taken.is ∙ (in_other p.spoken k j (λ e. absurd (omega (arith, below, order, high, e))) ∙ unspoken j high)
+
+-- ---- allocators
+
+-- a pool with the same blocks, of which as much is prepared
+pub inside_on : (c : Inside) (q : Pool) → IsInside c → IsPool q → q.bits ≡ c.pool.bits → q.blocks ≡ c.pool.blocks → q.prepared ≡ c.pool.prepared
+    → ((k : ℕ) → c.pool.prepared ≤ k → is_in q.spoken k ≡ false) → IsInside (record c { pool = q })
+inside_on c q is pool bits blocks prepared unspoken =
+    let some : 0 < c.pool.prepared = is.allocator.some in
+    let below : c.table + 8 * length c.pool.blocks ≤ 2 ^ 62 = is.allocator.below in
+    let count : length q.blocks ≡ length c.pool.blocks = ap (λ (bs : List ℕ). length bs) blocks in
+    record {
+      allocator = record {
+        pool = pool;
+        some = omega (arith, some, prepared);
+        blocks = λ i there.
+            let here : slice_index q.blocks i ≡ slice_index c.pool.blocks i = ap (λ (bs : List ℕ). slice_index bs i) blocks in
+            let at = is.allocator.blocks i (λ z. there (here ∙ z)) in
+            let low : at.0 < c.pool.prepared = at.2 in
+            (at.0, at.1, (omega (arith, low, prepared)), here ∙ (at.3 ∙ ap (λ (b : ℕ). place_of b at.0) (sym bits)));
+        below = omega (arith, below, count);
+        ends = λ i.
+            let here : slice_index q.blocks i ≡ slice_index c.pool.blocks i = ap (λ (bs : List ℕ). slice_index bs i) blocks in
+            let size : 2 ^ q.bits ≡ 2 ^ c.pool.bits = ap (λ (b : ℕ). 2 ^ b) bits in
+            let end : slice_index c.pool.blocks i + 2 ^ c.pool.bits ≤ 2 ^ 62 = is.allocator.ends i in
+            omega (arith, here, size, end);
+        unspoken = λ k high. unspoken k (omega (arith, prepared, high));
+      };
+      counts = is.counts ∙ ap (λ (b : ℕ). 2 * min (counts_in b) (2 ^ 15)) (sym bits);
+      batch = is.batch;
+    }
+
+pub inside_claimed : {T : Type 0} (c : Inside) (q : Pool) (k : ℕ) (result : Result T ClusterRefusal) → IsInside c → OnOk result ((claim_refusal c.pool k ≡ None) × (q ≡ claimed c.pool k)) → OnErr result (q ≡ c.pool)
+    → IsInside (record c { pool = q })
+inside_claimed c q k (Ok value) is done kept =
+    let P : Pool → Type 0 = λ x. IsInside (record c { pool = x }) in
+    subst P (sym done.1) (inside_on c (claimed c.pool k) is (pool_claimed c.pool k is.allocator.pool) refl refl refl
+    (let below = claimed_below c.pool k is.allocator.pool done.0 in λ j high. in_other c.pool.spoken k j (λ e. absurd (omega (arith, below, high, e))) ∙ is.allocator.unspoken j high))
+inside_claimed c q k (Err why) is done kept =
+    let P : Pool → Type 0 = λ x. IsInside (record c { pool = x }) in
+    subst P (sym kept) is
+
+pub inside_given : (c : Inside) (q : Pool) (k : ℕ) → IsInside c → q ≡ given_back c.pool k → IsInside (record c { pool = q })
+inside_given c q k is same =
+    let P : Pool → Type 0 = λ x. IsInside (record c { pool = x }) in
+    subst P (sym same) (inside_on c (given_back c.pool k) is (pool_given c.pool k is.allocator.pool) refl refl refl
+    (λ j high. still_out c.pool.spoken k j (is.allocator.unspoken j high)))
+
+pub inside_taken : (c : Inside) (q : Pool) (k : ℕ) → IsInside c → HasTaken c.pool q k → IsInside (record c { pool = q })
+inside_taken c q k is taken =
+    inside_on c q is (pool_taken c.pool q k is.allocator.pool taken) (ap (λ (x : Pool). x.bits) taken.is) (ap (λ (x : Pool). x.blocks) taken.is) (ap (λ (x : Pool). x.prepared) taken.is)
+    (taken_unspoken c.pool q k is.allocator.pool taken is.allocator.unspoken)

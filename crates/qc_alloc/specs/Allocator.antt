@@ -1,0 +1,53 @@
+-- An allocator of an image's clusters, and how it goes with the file.
+use Rattle.std.specs.Prelude.{◌≡◌, ◌≢◌, ◌⊎◌, ℕ, ◌+◌, ◌*◌, ◌/◌, ◌^◌, ◌<◌, ◌≤◌, List, length, All, false}
+use Rattle.disk_model.specs.Files.{u64_at}
+use Rattle.disk_model.specs.World.{World}
+use Rattle.bitmap_model.specs.Granules.{is_in}
+use Rattle.qc_layout.specs.Disks.{place_of}
+use Rattle.cluster_pool.specs.Pool.{Pool, IsPool, each, block_at}
+use Rattle.image_model.specs.Clusters.{Shape, IsShape, size, place, IsStanding}
+use Rattle.image_model.specs.Calls.{Told}
+
+pub record Allocator : Type 0 where
+  -- the image's file, and where its refcount table stands
+  pub file : ℕ
+  pub table : ℕ
+  pub pool : Pool
+
+-- What holds of each: cluster 0 is the header's, each block that is there is a cluster below those that aren't prepared, and the
+-- refcount table lies where files can be.
+pub record IsAllocator (a : Allocator) : Type 0 where
+  pub pool : IsPool a.pool
+  pub some : 0 < a.pool.prepared
+  pub blocks : (i : ℕ) → block_at a.pool i ≢ 0 → (k : ℕ) × (0 < k) × (k < a.pool.prepared) × (block_at a.pool i ≡ place_of a.pool.bits k)
+  pub below : a.table + 8 * length a.pool.blocks ≤ 2 ^ 62
+  -- and so does each block
+  pub ends : (i : ℕ) → block_at a.pool i + 2 ^ a.pool.bits ≤ 2 ^ 62
+  -- no cluster is spoken for that isn't prepared
+  pub unspoken : (k : ℕ) → a.pool.prepared ≤ k → is_in a.pool.spoken k ≡ false
+
+-- its numbers are those of the shape
+pub record IsOf (s : Shape) (a : Allocator) : Type 0 where
+  pub shape : IsShape s
+  pub table : a.table ≡ s.counts
+  pub cluster : 2 ^ a.pool.bits ≡ size s
+  pub blocks : length a.pool.blocks ≡ s.blocks
+
+-- the word of a block that is missing names the first cluster that isn't prepared: the call that was to add it failed
+pub record IsHalfAdded (s : Shape) (a : Allocator) (i : ℕ) (file : List ℕ) : Type 0 where
+  pub missing : block_at a.pool i ≡ 0
+  pub counts : i ≡ a.pool.prepared / each a.pool
+  pub word : u64_at file (s.counts + 8 * i) ≡ place s a.pool.prepared
+
+-- the words of the refcount table are its blocks, but for one that was half added
+abbrev pub HasTable : Shape → Allocator → List ℕ → Type 0
+HasTable s a file = (i : ℕ) → i < s.blocks → (u64_at file (s.counts + 8 * i) ≡ block_at a.pool i) ⊎ IsHalfAdded s a i file
+
+-- The image stands, with the clusters from `first` to those that aren't prepared ready, and the allocator knows it. The clusters that it
+-- hands out next are among those.
+pub record Allocates (s : Shape) (disks : List (List ℕ)) (first : ℕ) (a : Allocator) (w : World) : Type 0 where
+  pub is : IsOf s a
+  pub stands : IsStanding s disks first a.pool.prepared a.file w
+  pub table : Told (HasTable s a) a.file w
+  pub ready : All (λ k. first ≤ k) a.pool.ready
+  pub fresh : first ≤ a.pool.next
