@@ -1,0 +1,204 @@
+-- One cluster of the guest's is stored in the place of a hole.
+use Rattle.std.proofs.Common.{◌≡◌, ◌⊎◌, inl, inr, ⊎_elim, ℕ, ◌+◌, ◌-◌, ◌*◌, ◌%◌, ◌^◌, ◌<◌, ◌≤◌, List, [], ◌∷◌, length, IsTrue, refl, sym, ◌∙◌, ap, subst, arith}
+use Rattle.std.specs.List.{All}
+use Rattle.std.specs.Int.{to_be_bytes, w64}
+use Rattle.std.proofs.lemmas.Bool.{cases_eq}
+use Rattle.std.proofs.lemmas.List.{append-nil}
+use Rattle.std.proofs.Math.Nat.{mul_assoc, mul_comm, mul-le-mul, pow-le-pow_right}
+use Rattle.disk_model.specs.Files.{byte, u64_at}
+use Rattle.disk_model.specs.World.{World, Runs, writes_of, IsSound, EachSince}
+use Rattle.disk_model.proofs.Laws.{told_at, number-append, length-to_be_bytes}
+use Rattle.qc_layout.specs.Disks.{place_of}
+use Rattle.image_model.specs.Clusters.{Shape, size, place, Head, IsLink, IsSafe, IsStanding, Moves, Reads, guest}
+use Rattle.image_model.specs.Calls.{Told, IsTakeable, LeavesGuest, SameTables, SameBlocks}
+use Rattle.image_model.specs.Runs.{IsFilling, IsLinking, AreLinks, LeavesRest, IsStored}
+use Rattle.image_steps.proofs.Good.{more_safe}
+use Rattle.image_steps.proofs.Places.{place_next}
+use Rattle.image_steps.proofs.Standing.{moves_on, stands_less}
+use Rattle.image_steps.proofs.Storing.{linking_on, rest_after}
+use Rattle.cluster_pool.specs.Pool.{Pool, reach, block_at, IsReady, AreRising, HasTaken}
+use Rattle.cluster_pool.specs.Sets.{with_member}
+use Rattle.qc_alloc.specs.Allocator.{Allocator, IsAllocator, IsOf, IsHalfAdded, HasTable, Allocates}
+use Rattle.qc_alloc.specs.Growing.{Grows}
+use Rattle.qc_alloc.specs.Laws.{CanBeUsed, PreparedIsClean}
+use Rattle.alloc_tests.specs.Caller.{IsHole, StandsFrom}
+
+-- ---- numbers
+
+-- where a cluster below the reach begins
+pub shift_at : (bits k : ℕ) → bits ≤ 21 → k < 1073741824 → (k * 2 ^ bits % 18446744073709551616 ≡ place_of bits k) × (k * 2 ^ bits % 18446744073709551616 ≤ 2251799813685248)
+unfolding place_of
+shift_at bits k high low =
+    let pow : 2 ^ bits ≤ 2 ^ 21 = pow-le-pow_right {n = 2} (omega arith) {i = bits} {j = 21} high in
+    let few : k * 2 ^ bits ≤ 1073741824 * 2097152 = mul-le-mul {n₁ = k} {m₁ = 2 ^ bits} {n₂ = 1073741824} {m₂ = 2097152} (omega (arith, low)) pow in
+    let swap : k * 2 ^ bits ≡ 2 ^ bits * k = mul_comm k (2 ^ bits) in
+    (omega (arith, few, swap), omega (arith, few))
+
+place_is : {s : Shape} {a : Allocator} (k : ℕ) → IsOf s a → place_of a.pool.bits k ≡ place s k
+unfolding place_of place
+place_is {s} {a} k is = ap (λ (n : ℕ). n * k) is.cluster ∙ mul_assoc 512 s.sectors k
+
+number_of : (v : ℕ) → v < 18446744073709551616 → u64_at (to_be_bytes w64 v) 0 ≡ v
+number_of v fits = subst (λ (l : List ℕ). u64_at l 0 ≡ v) (append-nil (to_be_bytes w64 v)) (number-append w64 [] [] 0 v refl fits)
+
+abbrev parts : ℕ → ℕ → Pool → Allocator
+parts file table pool = record { file = file; table = table; pool = pool }
+
+same_allocator : (a b : Allocator) → a.file ≡ b.file → a.table ≡ b.table → a.pool ≡ b.pool → a ≡ b
+same_allocator a b file table pool =
+    ap (λ (f : ℕ). parts f a.table a.pool) file ∙ ap (λ (t : ℕ). parts b.file t a.pool) table ∙ ap (λ (p : Pool). parts b.file b.table p) pool
+
+-- ---- before a cluster is taken
+
+module _ {s : Shape} {disks : List (List ℕ)} {first f : ℕ} {a b : Allocator} {x y : World} (at : a.file ≡ f) (grows : Grows a b x y) where
+  pub grown : Moves f (IsSafe s disks) (Allocates s disks first a) (Allocates s disks first b) x y
+  grown = subst (λ (g : ℕ). Moves g (IsSafe s disks) (Allocates s disks first a) (Allocates s disks first b) x y) at (grows.moves s disks first)
+
+  pub grown_leaves : Reads f (Allocates s disks first a) (LeavesGuest s) x y
+  grown_leaves = subst (λ (g : ℕ). Reads g (Allocates s disks first a) (LeavesGuest s) x y) at (grows.leaves s disks first)
+
+  pub grown_more : (e : List ℕ) → Moves f (IsSafe s (e ∷ disks)) (Allocates s disks first a) (StandsFrom s (e ∷ disks) b) x y
+  grown_more e = record {
+    since = λ al k low high c left. more_safe s disks e c (grown.since al k low high c left);
+    stands = λ al. let next = grown.stands al in (
+      first,
+      record {
+        is = next.is;
+        stands = λ told. stands_less e (omega arith) (next.stands told).order next.stands told;
+        table = next.table;
+        ready = next.ready;
+        fresh = next.fresh;
+      },
+    );
+  }
+
+-- ---- a cluster is taken and filled
+
+module _ {s : Shape} {disks : List (List ℕ)} {first q i j k f spot at : ℕ} {words : List ℕ} (bytes : List ℕ) {a0 a1 a2 : Allocator} {w0 w1 : World} (file0 : a0.file ≡ f) (grows : Grows a0 a1 w0 w1) (run : Runs (writes_of a0.file) w0 w1)
+    (is : IsAllocator a1) (taken : HasTaken a1.pool a2.pool k) (is_ready : IsReady a1.pool k) (same : (a2.file ≡ a1.file) × (a2.table ≡ a1.table)) (clean : PreparedIsClean)
+    (at_is : at ≡ place_of a1.pool.bits k) (low : at ≤ 2251799813685248) (long : length bytes ≡ 2 ^ a1.pool.bits) (words_are : words ≡ to_be_bytes w64 (at + 9223372036854775808)) (hole : IsHole s q i j spot f w0) (al : Allocates s disks first a0 w0) where
+  file1 : a1.file ≡ f
+  file1 = grows.file ∙ file0
+
+  al1 : Allocates s disks first a1 w1
+  al1 = (grown {disks = disks} {first = first} file0 grows).stands al
+
+  stands1 : IsStanding s disks first a1.pool.prepared f w1
+  stands1 = subst (λ (g : ℕ). IsStanding s disks first a1.pool.prepared g w1) file1 al1.stands
+
+  from : first ≤ k
+  from = let all = subst (λ (ks : List ℕ). All (λ m. first ≤ m) ks) taken.first al1.ready in all 0 0 (omega arith)
+
+  to : k + 1 ≤ a1.pool.prepared
+  to = omega (arith, is_ready.below, is.pool.order)
+
+  used : IsTrue w1.tells → CanBeUsed s k f w1
+  used told = subst (λ (g : ℕ). CanBeUsed s k g w1) file1 (clean s disks first a1 w1 k is al1 told from (omega (arith, to)) is_ready.linked is_ready.differs)
+
+  some : IsTrue w1.tells → 0 < k
+  some told = elim (cases_eq k 0) [
+    | inl none ↦ absurd ((used told).seen.unnamed Head none)
+    | inr other ↦ omega (arith, other)
+  ]
+
+  at_place : at ≡ place s k
+  at_place = at_is ∙ place_is k al1.is
+
+  filling : IsTrue w1.tells → IsFilling s first a1.pool.prepared k 1 at (length bytes) f w1
+  filling told = record {
+    shape = al1.is.shape;
+    some = some told;
+    low = omega (arith, at_place);
+    high = omega (arith, at_place, place_next s k, long, al1.is.cluster);
+    from = from;
+    to = to;
+    takeable = λ m m_in told. let one : k ≡ k + m = omega (arith, m_in) in subst (λ (n : ℕ). IsTakeable s n (w1.seen f)) one (used told).takeable;
+  }
+
+  links : AreLinks s k 1 words
+  links = record {
+    long = ap length words_are ∙ length-to_be_bytes w64 (at + 9223372036854775808);
+    link = λ m m_in.
+        let none : 0 ≡ m = omega (arith, m_in) in
+        let one : IsLink s (u64_at words (8 * 0)) (k + 0) = ap (λ (l : List ℕ). u64_at l 0) words_are ∙ number_of (at + 9223372036854775808) (omega (arith, low)) ∙ ap (λ (p : ℕ). p + 9223372036854775808) (at_place ∙ ap (λ (n : ℕ). place s n) (omega arith)) in
+        subst (λ (n : ℕ). IsLink s (u64_at words (8 * n)) (k + n)) none one;
+  }
+
+  linking : IsTrue w1.tells → IsLinking s (k + 1) k 1 q i j spot f words w1
+  linking told =
+      linking_on run (record { shape = al1.is.shape; slots = hole.slots; some = some told; below = omega arith; links = links; opened = hole.opened })
+      (λ was. grown_leaves {disks = disks} {first = first} file0 grows al was)
+
+  -- the allocator afterwards
+  rest : List ℕ
+  rest = taken.rest
+
+  next : Allocator
+  next = record a1 { pool = record a1.pool { ready = taken.rest; spoken = with_member a1.pool.spoken k } }
+
+  allocates_next : {e : List ℕ} {w2 : World} → IsStanding s (e ∷ disks) (k + 1) a1.pool.prepared f w2 → Told (HasTable s a1) f w2 → Allocates s (e ∷ disks) (k + 1) next w2
+  unfolding next
+  allocates_next {e} {w2} stands table = record {
+    is = record { shape = al1.is.shape; table = al1.is.table; cluster = al1.is.cluster; blocks = al1.is.blocks };
+    stands = subst (λ (g : ℕ). IsStanding s (e ∷ disks) (k + 1) a1.pool.prepared g w2) (sym file1) stands;
+    table = λ told x x_in. ⊎_elim
+        (λ (at : u64_at (w2.seen a1.file) (s.counts + 8 * x) ≡ block_at a1.pool x). inl at)
+        (λ (half : IsHalfAdded s a1 x (w2.seen a1.file)). inr (record { missing = half.missing; counts = half.counts; word = half.word }))
+        (subst (λ (g : ℕ). HasTable s a1 (w2.seen g)) (sym file1) (table told) x x_in);
+    ready = let rising : AreRising (k ∷ taken.rest) = subst AreRising taken.first is.pool.rising in (λ x d x_in. let above = rising.0 x d x_in in omega (arith, above));
+    fresh = omega (arith, is_ready.below);
+  }
+
+  is_next : next ≡ a2
+  unfolding next
+  is_next = sym (same_allocator a2 next same.0 same.1 taken.is)
+
+  -- what the write gives, whatever it answers
+  module _ {w2 : World} (on : Runs (writes_of f) w1 w2) (sound : IsSound w2)
+      (moves : (s : Shape) (disks : List (List ℕ)) (first last k n q i j : ℕ) → IsFilling s first last k n at (length bytes) f w1 → IsLinking s (k + n) k n q i j spot f words w1
+      → Moves f (IsSafe s (w2.seen f ∷ disks)) (IsStanding s disks first last f) (IsStanding s (w2.seen f ∷ disks) (k + n) last f) w1 w2)
+      (rows : (s : Shape) (disks : List (List ℕ)) (first last k n q i j : ℕ) → IsFilling s first last k n at (length bytes) f w1 → IsLinking s (k + n) k n q i j spot f words w1
+      → Reads f (IsStanding s disks first last f) (λ old new. SameTables s old new × SameBlocks s old new) w1 w2) where
+    told1 : IsTrue w2.tells → IsTrue w1.tells
+    told1 told = subst IsTrue on.goes.tells told
+
+    wrote : IsTrue w1.tells → Moves f (IsSafe s (w2.seen f ∷ disks)) (IsStanding s disks first a1.pool.prepared f) (IsStanding s (w2.seen f ∷ disks) (k + 1) a1.pool.prepared f) w1 w2
+    wrote told = moves s disks first a1.pool.prepared k 1 q i j (filling told) (linking told)
+
+    pub filled_since : EachSince w2 w0.now f (IsSafe s (w2.seen f ∷ disks))
+    filled_since x x_low x_high c left =
+        (moves_on {K = IsStanding s (w2.seen f ∷ disks) (k + 1) a1.pool.prepared f} run on (λ d safe. more_safe s disks (w2.seen f) d safe) (grown {disks = disks} {first = first} file0 grows) (λ al1. record {
+          since = λ st. (wrote (told1 (told_at w2 x f c sound left))).since stands1;
+          stands = λ st. (wrote (told1 (told_at w2 x f c sound left))).stands stands1;
+        })).since al x x_low x_high c left
+
+    pub filled_stands : StandsFrom s (w2.seen f ∷ disks) a2 w2
+    filled_stands = (
+      k + 1,
+      subst (λ (d : Allocator). Allocates s (w2.seen f ∷ disks) (k + 1) d w2) is_next
+          (allocates_next (λ told. (wrote (told1 told)).stands stands1 told)
+          (λ told x x_in.
+          let was = rows s disks first a1.pool.prepared k 1 q i j (filling (told1 told)) (linking (told1 told)) stands1 (told1 told) in
+          let old : HasTable s a1 (w1.seen f) = subst (λ (g : ℕ). HasTable s a1 (w1.seen g)) file1 (al1.table (told1 told)) in
+          ⊎_elim
+          (λ (same : u64_at (w1.seen f) (s.counts + 8 * x) ≡ block_at a1.pool x). inl (was.1 x x_in ∙ same))
+          (λ (half : IsHalfAdded s a1 x (w1.seen f)). inr (record { missing = half.missing; counts = half.counts; word = was.1 x x_in ∙ half.word }))
+          (old x x_in))),
+    )
+
+    pub filled_leaves : ((s : Shape) (disks : List (List ℕ)) (first last k n q i j : ℕ) → IsFilling s first last k n at (length bytes) f w1 → IsLinking s (k + n) k n q i j spot f words w1
+        → Reads f (IsStanding s disks first last f) (LeavesRest s i j n) w1 w2) → IsTrue w0.tells → LeavesRest s i j 1 (w0.seen f) (w2.seen f)
+    filled_leaves leaves told =
+        let told1 : IsTrue w1.tells = subst IsTrue (sym run.goes.tells) told in
+        rest_after (grown_leaves {disks = disks} {first = first} file0 grows al told) (leaves s disks first a1.pool.prepared k 1 q i j (filling told1) (linking told1) stands1 told1)
+
+    pub filled_shows : ((s : Shape) (disks : List (List ℕ)) (first last k n q i j : ℕ) → IsFilling s first last k n at (length bytes) f w1 → IsLinking s (k + n) k n q i j spot f words w1
+        → Reads f (IsStanding s disks first last f) (λ old new. (m : ℕ) → m < n → IsStored s i (j + m) (k + m) (u64_at words (8 * m)) at bytes new) w1 w2)
+        → IsTrue w0.tells → (t : ℕ) → t < size s → guest s (w2.seen f) i j t ≡ byte bytes t
+    filled_shows stored told t t_in =
+        let told1 : IsTrue w1.tells = subst IsTrue (sym run.goes.tells) told in
+        let shows = (stored s disks first a1.pool.prepared k 1 q i j (filling told1) (linking told1) stands1 told1 0 (omega arith)).shows in
+        let here : place s (k + 0) ≡ at = ap (λ (n : ℕ). place s n) (omega arith) ∙ sym at_place in
+        let slot : j + 0 ≡ j = omega arith in
+        let there : place s (k + 0) + t - at ≡ t = omega (arith, here) in
+        ap (λ (n : ℕ). guest s (w2.seen f) i n t) (sym slot) ∙ shows.inside t t_in (omega (arith, here)) (omega (arith, here, long, al1.is.cluster, t_in)) ∙ ap (λ (n : ℕ). byte bytes n) there
