@@ -32,3 +32,4 @@ pub mod SameStored
 pub mod Holding
 pub mod DirectoryChecks
 pub mod Loading
+pub mod Claimed

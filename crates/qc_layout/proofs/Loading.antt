@@ -37,7 +37,7 @@ place_whole : (bits : ℕ) (file : List ℕ) (found : Option Extension) (place :
     → bitmaps_in file found ≡ Some place → place.offset % 2 ^ bits ≡ 0
 place_whole bits file found place good is = grind (arith, common_steps)
 
-directory_claims : (file : List ℕ) (h : Header) → Spells parts.Source file h → Claims (Holds file (listed_in file)) (directory_checks file (directory_in file))
+pub directory_claims : (file : List ℕ) (h : Header) → Spells parts.Source file h → Claims (Holds file (listed_in file)) (directory_checks file (directory_in file))
 directory_claims file h spelled =
     let es : List Extension = spelled.extensions in
     let bits : ℕ = bits_of file in
@@ -50,11 +50,11 @@ directory_claims file h spelled =
 
 -- ---- what was claimed before
 
-has_claimed : (checks : List Check) (owner : Who) (k : ℕ) → Has checks (Claim owner k) → list_any (λ other. other == k) (claimed_in checks) ≡ true
+pub has_claimed : (checks : List Check) (owner : Who) (k : ℕ) → Has checks (Claim owner k) → list_any (λ other. other == k) (claimed_in checks) ≡ true
 has_claimed [] owner k has = absurd has
 has_claimed (c ∷ cs) owner k has = let rest = has_claimed cs owner k in grind (arith, common_steps, eq-eqb)
 
-claimed_has : (checks : List Check) (k : ℕ) → list_any (λ other. other == k) (claimed_in checks) ≡ true → (owner : Who) × Has checks (Claim owner k)
+pub claimed_has : (checks : List Check) (k : ℕ) → list_any (λ other. other == k) (claimed_in checks) ≡ true → (owner : Who) × Has checks (Claim owner k)
 claimed_has [] k found = absurd (cc)
 claimed_has (Refused fault ∷ cs) k found = let rest = claimed_has cs k found in (rest.0, inr rest.1)
 claimed_has (Reached j ∷ cs) k found = let rest = claimed_has cs k found in (rest.0, inr rest.1)

@@ -84,6 +84,12 @@ claimed_in (Refused fault ∷ checks) = claimed_in checks
 claimed_in (Reached k ∷ checks) = claimed_in checks
 claimed_in (Claim owner k ∷ checks) = k ∷ claimed_in checks
 
+-- and those that these hold
+abbrev pub held_in : List BitmapCheck → List ℕ
+held_in [] = []
+held_in (Rule refused ∷ checks) = held_in checks
+held_in (Hold held k ∷ checks) = k ∷ held_in checks
+
 -- why a source's clusters and bitmaps are refused
 unfoldable pub image_fault : List ℕ → Option LoadFault
 image_fault file = option_or (option_map (λ found. Cluster found) (cluster_fault file)) (bitmaps_refused_after file (claimed_in (image_checks file)) (directory_checks file (directory_in file)))
