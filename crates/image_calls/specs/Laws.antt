@@ -1,5 +1,5 @@
 -- What a layer above takes from a file that is safe, as statements: from clusters and roles to headers, tables and disks.
-use Rattle.std.specs.Prelude.{◌≡◌, ℕ, ◌≤◌, List, length, map, Bool, None}
+use Rattle.std.specs.Prelude.{◌≡◌, ℕ, ◌≤◌, List, ◌++◌, length, map, Bool, None}
 use Rattle.disk_model.specs.Files.{overlay}
 use Rattle.disk_model.specs.World.{World}
 use Rattle.qc_layout.specs.declared.header.Header.{Header}
@@ -10,14 +10,16 @@ use Rattle.qc_layout.specs.Header.{fields_of}
 use Rattle.qc_layout.specs.Spelling.{Spells, IsHeaderOf}
 use Rattle.qc_layout.specs.Records.{record_fault}
 use Rattle.qc_layout.specs.Disks.{Passes, Stands, bits_of}
-use Rattle.qc_layout.specs.Directory.{spans_in, directory_fault, stored_in}
+use Rattle.qc_layout.specs.Directory.{directory_in, spans_in, directory_fault, stored_in}
+use Rattle.qc_layout.specs.Opening.{image_checks}
+use Rattle.qc_layout.specs.Loading.{directory_checks, claimed_in, held_in}
 use Rattle.qc_layout.specs.Owners.{Tight}
 use Rattle.qc_layout.specs.Room.{TablesPass, IsNextFree}
 use Rattle.qc_layout.specs.Laws.{IsLoadable}
 use Rattle.image_model.specs.Space.{Store}
 use Rattle.image_model.specs.Images.{IsBackupFile, HasContent}
 use Rattle.image_model.specs.Clusters.{Shape, IsShape, OwnsAsListed, IsSafe, IsStanding}
-use Rattle.image_model.specs.Calls.{IsOpened, shape_of, AreExactly, AreSettled, Rests}
+use Rattle.image_model.specs.Calls.{IsOpened, shape_of, AreClaimed, AreExactly, AreSettled, Rests}
 use Rattle.image_model.specs.Disks.{disk_of, IsMixedOf}
 
 -- An image that an opening takes has a shape: its base is the file, bitmaps own what its directory says, and it is as an opening finds it.
@@ -29,7 +31,17 @@ LoadableOpens = (file : List ℕ) (h : Header) (next : ℕ) → Spells parts.Sou
 abbrev pub BackupOpens : Type 0
 BackupOpens = (file : List ℕ) (h : Header) (next : ℕ) → Spells parts.Target file h → TablesPass file → IsNextFree file next → IsOpened (shape_of file) next file
 
--- its tables pass the rules of an opening, bitmaps apart
+-- What an opening claims of a source is just what is referred to: of its tables, and of its directory.
+abbrev pub LoadableClaims : Type 0
+LoadableClaims = (file : List ℕ) (h : Header) (s : Shape) (taken : ℕ → Bool) → Spells parts.Source file h → IsLoadable file → s.base ≡ file → OwnsAsListed s → IsShape s
+    → AreClaimed s (claimed_in (image_checks file) ++ held_in (directory_checks file (directory_in file))) taken → AreExactly s taken file
+
+-- and so it is of a backup
+abbrev pub BackupClaims : Type 0
+BackupClaims = (file : List ℕ) (h : Header) (taken : ℕ → Bool) → Spells parts.Target file h → TablesPass file
+    → AreClaimed (shape_of file) (claimed_in (image_checks file)) taken → AreExactly (shape_of file) taken file
+
+-- The tables of a safe file pass the rules of an opening, bitmaps apart.
 abbrev pub SafePasses : Type 0
 SafePasses = (s : Shape) (disks : List (List ℕ)) (file : List ℕ) → IsShape s → 104 ≤ length s.base → IsSafe s disks file → TablesPass file
 

@@ -5,7 +5,7 @@ ghost use Rattle.disk_model.specs.Files.{u64_at};
 ghost use Rattle.file_device.specs.Calls.{Puts, Synced};
 ghost use Rattle.file_device.specs.File.{file_of, IsSettled};
 ghost use Rattle.image_model.specs.Clusters.{Shape, each, place, IsShape, IsBlock, IsSafe, IsStanding, Moves, Reads};
-ghost use Rattle.image_model.specs.Calls.{Told, IsToppingUp, IsAddingBlock, IsSettling, AreExactly, Rests, LeavesGuest, LeavesCounts, HasCounts, IsBareBlock, CountsNoOther, EndsBy, last_after, SameTables, SameBlocks, SameBlocksBut, SameBeside, IsWithin};
+ghost use Rattle.image_model.specs.Calls.{Told, IsToppingUp, IsAddingBlock, IsSettling, AreNamed, Rests, LeavesGuest, LeavesCounts, HasCounts, IsBareBlock, CountsNoOther, EndsBy, last_after, SameTables, SameBlocks, SameBlocksBut, SameBeside, IsWithin};
 
 use disk_model::{Depot, Failed, FileNo};
 use file_device::{sync, write};
@@ -120,7 +120,8 @@ pub fn add_block<D: Depot>(
     write(depot, file, at, &word.to_be_bytes()) // the next sync makes it last
 }
 
-/// Syncs. Then the disk as it is is the one that a crash may leave, and what nothing refers to may be used for anything.
+/// Syncs. Then the disk as it is is the one that a crash may leave, and what nothing refers to may be used for anything. No cluster is
+/// ready any more; one that is taken and that nothing refers to stays counted.
 pub fn rest<D: Depot>(depot: &mut D, file: FileNo) -> Result<(), Failed>
     requires given { file.0 < (D.world depot.old).given }
 
@@ -133,7 +134,7 @@ pub fn rest<D: Depot>(depot: &mut D, file: FileNo) -> Result<(), Failed>
         (D.world depot.old) (D.world depot.new)) }
 
     ensures rests { OnOk result ((s : Shape) (disks : List (List ℕ)) (taken : ℕ → Bool) (first last : ℕ) →
-        Told (AreExactly s taken) file.0 (D.world depot.old) →
+        Told (AreNamed s taken) file.0 (D.world depot.old) →
         Moves file.0 (IsSafe s disks) (IsStanding s disks first last file.0) (Rests s ((D.world depot.new).seen file.0 ∷ []) taken last file.0)
         (D.world depot.old) (D.world depot.new)) }
 

@@ -6,6 +6,7 @@ ghost use Rattle.file_device.specs.Calls.{Puts};
 ghost use Rattle.image_model.specs.Clusters.{Shape, per, guest, word_of, ShowsAs, IsShape, IsTable, IsSafe, IsStanding, Moves, Reads};
 ghost use Rattle.image_model.specs.Calls.{Told, IsSlot, IsIn, IsData, IsTablePut, Shows, IsPartly, LeavesGuest, LeavesOthers, IsNewTable, SameTables, SameBlocks, SameTablesBut, SameBeside, IsWithin};
 
+use crate::rows::{clear_entries, overwrite_run};
 use disk_model::{Depot, Failed, FileNo};
 use file_device::write;
 
@@ -45,8 +46,7 @@ pub fn clear_entry<D: Depot>(depot: &mut D, file: FileNo, slot: u64) -> Result<(
 
     ensures puts { Puts file.0 (D.world depot.old) (D.world depot.new) result }
 {
-    let none: u64 = 0;
-    write(depot, file, slot, &none.to_be_bytes())
+    clear_entries(depot, file, slot, &[0; 8])
 }
 
 /// Writes data over a stored cluster, or a part of it.
@@ -88,7 +88,7 @@ pub fn overwrite<D: Depot>(depot: &mut D, file: FileNo, at: u64, bytes: &[u8]) -
 
     ensures puts { Puts file.0 (D.world depot.old) (D.world depot.new) result }
 {
-    write(depot, file, at, bytes)
+    overwrite_run(depot, file, at, bytes)
 }
 
 /// Names a ready cluster as a second-level table, whose zeros are holes.

@@ -1,6 +1,6 @@
 //! What a layer above takes from a file that is safe. Each function does nothing; its contract is the law.
 
-ghost use Rattle.image_calls.specs.Laws.{LoadableOpens, BackupOpens, SafePasses, SafeHasHeader, SafeStands, SafeIsMixed, SafeLoads, SettledIsTight, RestingStands, BackupsTakeRecords};
+ghost use Rattle.image_calls.specs.Laws.{LoadableOpens, BackupOpens, LoadableClaims, BackupClaims, SafePasses, SafeHasHeader, SafeStands, SafeIsMixed, SafeLoads, SettledIsTight, RestingStands, BackupsTakeRecords};
 
 /// An image that an opening takes has a shape, with the owners that its directory says.
 pub fn loadable_opens()
@@ -10,6 +10,16 @@ pub fn loadable_opens()
 /// A backup whose tables pass has the shape of its header.
 pub fn backup_opens()
     ensures { BackupOpens }
+{}
+
+/// What an opening claims of a source is just what is referred to.
+pub fn loadable_claims()
+    ensures { LoadableClaims }
+{}
+
+/// What an opening claims of a backup is just what is referred to.
+pub fn backup_claims()
+    ensures { BackupClaims }
 {}
 
 /// A safe file passes the rules of an opening, bitmaps apart.

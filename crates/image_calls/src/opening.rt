@@ -3,8 +3,8 @@
 ghost use Rattle.std.specs.Prelude.{◌≡◌, ℕ, List, [], ◌∷◌, ◌+◌, ◌*◌, ◌^◌, ◌<◌, ◌≤◌, length, OnOk, IsTrue, ◌⊎◌};
 ghost use Rattle.disk_model.specs.World.{EachSinceSync};
 ghost use Rattle.file_device.specs.Calls.{Puts, Synced};
-ghost use Rattle.image_model.specs.Clusters.{Shape, place, IsSafe, IsStanding, Moves};
-ghost use Rattle.image_model.specs.Calls.{Told, IsOpened, AreInside, Begins, SameBeside, IsWithin};
+ghost use Rattle.image_model.specs.Clusters.{Shape, IsSafe, IsStanding, Moves};
+ghost use Rattle.image_model.specs.Calls.{Told, IsOpened, AreInside, IsExtending, Begins, SameBeside, IsWithin};
 
 use disk_model::{Depot, Failed, FileNo};
 use file_device::{sync, write};
@@ -30,15 +30,15 @@ pub fn begin<D: Depot>(depot: &mut D, file: FileNo) -> Result<(), Failed>
     sync(depot, file)
 }
 
-/// Makes a file reach to the end of its last cluster.
+/// Makes a file reach to the end of so many clusters that all that is referred to lies in it. It stands from then on.
 pub fn extend<D: Depot>(depot: &mut D, file: FileNo, finish: u64) -> Result<(), Failed>
     requires given { file.0 < (D.world depot.old).given }
     requires end { finish + 1 ≤ 2 ^ 62 }
 
-    ensures begins { (s : Shape) (next : ℕ) (found : List ℕ) → finish + 1 ≡ place s next → length found ≤ finish →
+    ensures begins { (s : Shape) (next whole : ℕ) (found : List ℕ) → (IsTrue (D.world depot.old).tells → IsExtending s next whole finish found) →
         Moves file.0 (IsSafe s (found ∷ [])) (Begins s next found file.0) (Begins s next found file.0) (D.world depot.old) (D.world depot.new) }
 
-    ensures stands { OnOk result ((s : Shape) (next : ℕ) (found : List ℕ) → finish + 1 ≡ place s next → length found ≤ finish →
+    ensures stands { OnOk result ((s : Shape) (next whole : ℕ) (found : List ℕ) → (IsTrue (D.world depot.old).tells → IsExtending s next whole finish found) →
         Moves file.0 (IsSafe s (found ∷ [])) (Begins s next found file.0) (IsStanding s (found ∷ []) next next file.0) (D.world depot.old)
         (D.world depot.new)) }
 

@@ -49,6 +49,12 @@ is_zeroed Data = false
 is_zeroed Hole = false
 is_zeroed Zeroed = true
 
+-- by NBD's `base:allocation`: a hole is 1, and what reads as zeros 2
+abbrev pub allocation_flags : Kind → ℕ
+allocation_flags Data = 0
+allocation_flags Hole = 3
+allocation_flags Zeroed = 2
+
 abbrev pub kind_at : Store → ℕ → Kind
 kind_at s k = slice_index_or s.kinds k Hole
 

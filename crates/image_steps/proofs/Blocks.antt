@@ -2,10 +2,11 @@
 use Rattle.std.proofs.Common.{◌≡◌, ◌≢◌, ◌⊎◌, inl, inr, ⊎_elim, ℕ, ◌+◌, ◌-◌, ◌*◌, ◌<◌, ◌≤◌, IsTrue, Bool, true, false, List, [], ◌∷◌, length, refl, sym, ◌∙◌, ap, subst, arith}
 use Rattle.std.specs.Prelude.{if◌then◌else◌}
 use Rattle.std.proofs.lemmas.Bool.{cases_eq, cases_lt, eq-eqb, ne_eqb}
+use Rattle.std.proofs.lemmas.Grind.{common_steps}
 use Rattle.std.specs.Int.{from_be_bytes, w16, w64}
 use Rattle.disk_model.specs.Files.{byte, reading, number_at, u16_at, u64_at, overlay, IsTorn}
 use Rattle.disk_model.proofs.Laws.{whole_torn, u16_bytes, number-overlay_part, number_either, number-overlay_same, byte-overlay_in, byte-overlay_outside, length-overlay}
-use Rattle.image_model.specs.Clusters.{Shape, size, each, place, Who, Head, Bitmaps, Counts, Block, Tables, Table, Guest, IsBlock, IsCounted, Use, Free, Fresh, Spare, Ready, Of, IsTaken, IsBlank, IsFixed, IsZero, IsShape, Lies, IsOwnCount, IsGood}
+use Rattle.image_model.specs.Clusters.{Shape, size, each, place, Who, Counts, Block, IsBlock, IsCounted, Use, Free, Fresh, Spare, Ready, Of, IsTaken, IsBlank, IsFixed, IsZero, IsShape, Lies, IsOwnCount, IsGood}
 use Rattle.image_model.specs.Calls.{IsTopUp, AreOnes, IsNewBlock, IsSettling, AreNamed, Keeps, SameGuest, LeavesCounts, CountsNoOther}
 use Rattle.image_steps.proofs.Places.{Spares, Elsewhere, torn_spares, spares_more, within, half_spared, place_apart, place_next, place_more, sector_at}
 use Rattle.image_steps.proofs.Steps.{taken_of, quiet_keeps, quiet_forms, data_keeps, counted_on, same_count, quiet_counts, block_elsewhere, block_keeps, block_forms, block_on}
@@ -496,85 +497,50 @@ settled_good s some role disks taken q i low n spot counts old new is_block name
 
 -- but for blocks: one that isn't linked yet stays what it is
 abbrev pub keep_of : Who → Use
-keep_of Head = Free
-keep_of Counts = Free
 keep_of (Block i) = Of (Block i)
-keep_of Tables = Free
-keep_of (Table i) = Free
-keep_of (Guest i j) = Free
-keep_of (Bitmaps held) = Free
+keep_of who = Free
 
+-- and none is ready
 abbrev pub keep : Bool → Use → Use
+keep true Ready = Spare
 keep true u = u
-keep false Free = Free
 keep false Fresh = Fresh
-keep false Spare = Free
-keep false Ready = Free
 keep false (Of who) = keep_of who
+keep false u = Free
 
 pub kept_taken : (b : Bool) (u : Use) → IsTaken (keep b u) → IsTrue b ⊎ ((i : ℕ) × (u ≡ Of (Block i)))
-kept_taken true u taken = inl refl
-kept_taken false Free taken = absurd taken
-kept_taken false Fresh taken = absurd taken
-kept_taken false Spare taken = absurd taken
-kept_taken false Ready taken = absurd taken
-kept_taken false (Of who) taken = by_who who taken
-  where
-    by_who : (who : Who) → IsTaken (keep_of who) → IsTrue false ⊎ ((i : ℕ) × (Of who ≡ Of (Block i)))
-    by_who Head taken = absurd taken
-    by_who Counts taken = absurd taken
-    by_who (Block i) taken = inr (i, refl)
-    by_who Tables taken = absurd taken
-    by_who (Table i) taken = absurd taken
-    by_who (Guest i j) taken = absurd taken
-    by_who (Bitmaps held) taken = absurd taken
+kept_taken b u taken = grind (arith, common_steps)
 
-pub kept_same : (b : Bool) (u : Use) → IsTrue b → keep b u ≡ u
-kept_same true u is = refl
-kept_same false u is = cc
-
--- what became of a role
-pub kept_or : (b : Bool) (u : Use) → (keep b u ≡ u) ⊎ (keep b u ≡ Free)
-kept_or true u = inl refl
-kept_or false Free = inl refl
-kept_or false Fresh = inl refl
-kept_or false Spare = inr refl
-kept_or false Ready = inr refl
-kept_or false (Of who) = by_who who
-  where
-    by_who : (who : Who) → (keep_of who ≡ Of who) ⊎ (keep_of who ≡ Free)
-    by_who Head = inr refl
-    by_who Counts = inr refl
-    by_who (Block i) = inl refl
-    by_who Tables = inr refl
-    by_who (Table i) = inr refl
-    by_who (Guest i j) = inr refl
-    by_who (Bitmaps held) = inr refl
+pub kept_none : (b : Bool) (u : Use) → keep b u ≢ Ready
+kept_none b u = grind (arith, common_steps)
 
 pub kept_fresh : (b : Bool) (u : Use) → u ≡ Fresh → keep b u ≡ Fresh
-kept_fresh true u is = is
-kept_fresh false u is = ap (keep false) is
+kept_fresh b u is = grind (arith, common_steps)
 
 pub kept_block : (b : Bool) (u : Use) (i : ℕ) → u ≡ Of (Block i) → keep b u ≡ Of (Block i)
-kept_block true u i is = is
-kept_block false u i is = ap (keep false) is
+kept_block b u i is = grind (arith, common_steps)
+
+pub kept_back : (b : Bool) (u : Use) (i : ℕ) → keep b u ≡ Of (Block i) → u ≡ Of (Block i)
+kept_back b u i is = grind (arith, common_steps)
+
+kept_of : (b : Bool) (u : Use) (who : Who) → IsTrue b → u ≡ Of who → keep b u ≡ Of who
+kept_of b u who is of = grind (arith, common_steps)
+
+kept_used : (b : Bool) (u : Use) → IsTaken (keep b u) → IsTaken u
+kept_used b u taken = grind (arith, common_steps)
+
+kept_blank : (b : Bool) (u : Use) → IsBlank (keep b u) → IsBlank u
+kept_blank b u blank = grind (arith, common_steps)
+
+kept_fixed : (b : Bool) (u : Use) → IsFixed (keep b u) → IsFixed u
+kept_fixed b u fixed = grind (arith, common_steps)
 
 pub rested : (s : Shape) (role : ℕ → Use) (taken : ℕ → Bool) (file : List ℕ) → AreNamed s taken file → Lies s role file → Lies s (λ k. keep (taken k) (role k)) file
-rested s role taken file named lies = recast s role (λ k. keep (taken k) (role k)) file lies
-    (λ k. ⊎_elim
-    (λ (same : keep (taken k) (role k) ≡ role k). inl same)
-    (λ (is : keep (taken k) (role k) ≡ Free). inr (record {
-      refs = λ who refers. kept_same (taken k) (role k) (named who k refers) ∙ lies.refs who k refers;
-      used = λ t blocks. absurd (subst IsTaken is t);
-      ones = λ e. absurd (free_ready (keep (taken k) (role k)) is e);
-      zeros = λ blank. absurd (subst IsBlank is blank);
-      blocks = λ i e. absurd (free_of (keep (taken k) (role k)) (Block i) is e);
-      fixed = λ fixed. absurd (subst IsFixed is fixed);
-    }))
-    (kept_or (taken k) (role k)))
-  where
-    free_ready : (u : Use) → u ≡ Free → u ≡ Ready → ⊥
-    free_ready u a b = cc
-
-    free_of : (u : Use) (who : Who) → u ≡ Free → u ≡ Of who → ⊥
-    free_of u who a b = cc
+rested s role taken file named lies = record {
+  refs = λ who k refers. kept_of (taken k) (role k) who (named who k refers) (lies.refs who k refers);
+  used = λ k is blocks. lies.used k (kept_used (taken k) (role k) is) (λ i of. blocks i (kept_block (taken k) (role k) i of));
+  ones = λ k ready. absurd (kept_none (taken k) (role k) ready);
+  zeros = λ k blank. lies.zeros k (kept_blank (taken k) (role k) blank);
+  blocks = λ i k of. lies.blocks i k (kept_back (taken k) (role k) i of);
+  fixed = λ k fixed. lies.fixed k (kept_fixed (taken k) (role k) fixed);
+}

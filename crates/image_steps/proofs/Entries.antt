@@ -1,150 +1,74 @@
 -- Calls on a guest's cluster.
-use Rattle.std.proofs.Common.{◌≡◌, ℕ, ◌+◌, ◌*◌, ◌<◌, ◌≤◌, IsTrue, List, ◌∷◌, length, sym, ◌∙◌, ap, subst, arith, ◌⊎◌, ⊎_elim, inl, inr, ◌/◌}
+use Rattle.std.proofs.Common.{◌≡◌, ℕ, ◌+◌, ◌*◌, ◌<◌, IsTrue, List, length, replicate, refl, sym, ◌∙◌, ap, subst, arith, ◌⊎◌, ⊎_elim, inl, inr, ◌/◌}
+use Rattle.std.proofs.lemmas.List.{get_or-replicate}
 use Rattle.std.specs.Int.{from_be_bytes, w64}
-use Rattle.disk_model.specs.Files.{byte, u64_at, overlay, AgreesAt}
-use Rattle.image_model.specs.Clusters.{Block, word_of, ShowsAs}
-use Rattle.image_model.specs.Calls.{SameGuest, IsPartly}
-use Rattle.image_steps.proofs.Naming.{quiet_entry, other_word, entry_some, table_entry, table_alike, alike_self}
+use Rattle.disk_model.specs.Files.{u64_at, overlay}
 use Rattle.disk_model.specs.World.{World, IsSound, Writes, HasWritten, EachSince}
 use Rattle.disk_model.proofs.Laws.{lead_from, one_sector_write, number-overlay_same}
-use Rattle.image_model.specs.Clusters.{Shape, size, per, place, offset, Table, Guest, IsTable, Use, Ready, Of, IsBlank, IsShape, IsZero, host, guest, IsGood, IsSafe, IsLink, IsTaking, Standing}
-use Rattle.image_model.specs.Calls.{IsSlot, IsIn, IsOnly, IsTablePut, IsData, Keeps, SameBlocks, SameTablesBut, Shows, LeavesGuest, LeavesOthers, IsNewTable}
-use Rattle.image_steps.proofs.Places.{Spares, within, torn_spares, spares_more, sector_at}
-use Rattle.image_steps.proofs.Steps.{taken_of}
-use Rattle.image_steps.proofs.Good.{take, data_within, word_is, row_set, entry_inside}
-use Rattle.image_steps.proofs.Calls.{in_place_leads, hole_leads, row_leads, row_inside}
-use Rattle.image_steps.proofs.Standing.{put, taking, places, is_ready, taken_places, taken_linked, still_linked, leads_stand}
-use Rattle.image_steps.proofs.Kept as kept
-use Rattle.image_steps.proofs.Kept.{guest_some}
-use Rattle.image_steps.proofs.Links.{SameWords, words_by, words_table, keeps_words, keeps_row}
-use Rattle.disk_model.proofs.Laws.{byte-overlay_in, byte-overlay_outside}
-use Rattle.image_steps.proofs.Steps as steps
+use Rattle.image_model.specs.Clusters.{Shape, per, place, offset, Table, IsTable, Use, Ready, Of, IsBlank, IsShape, IsZero, word_of, ShowsAs, IsGood, IsSafe, IsLink, IsTaking, Standing}
+use Rattle.image_model.specs.Calls.{Told, SameGuest, IsSlot, IsIn, IsTablePut, IsData, Keeps, SameBlocks, SameTablesBut, LeavesGuest, LeavesOthers, IsNewTable}
+use Rattle.image_model.specs.Runs.{LeavesRest, IsInSector}
+use Rattle.image_model.specs.Rows.{IsOverwriting, IsClearing, AreUntouched, AreCleared}
+use Rattle.image_steps.proofs.Places.{place_next, Spares, torn_spares, spares_more, sector_at}
+use Rattle.image_steps.proofs.Good.{take, row_set}
+use Rattle.image_steps.proofs.Calls.{row_leads, row_inside}
+use Rattle.image_steps.proofs.Standing.{put, taking, places, is_ready, taken_places, taken_linked, leads_stand}
+use Rattle.image_steps.proofs.Links.{words_table, keeps_row}
+use Rattle.image_steps.proofs.Naming.{table_entry, table_alike, alike_self}
 
--- ---- an entry becomes a hole
+-- ---- one cluster is a run of one
 
-module _ {s : Shape} {disks : List (List ℕ)} {first last q i j spot f : ℕ} {word : List ℕ} {a b : World} (shape : IsShape s) (slot : IsSlot s q i j spot) (sound : IsSound a) (sound_b : IsSound b) (call : Writes f spot word a b)
-    (eight : length word ≡ 8) (says : from_be_bytes w64 word ≡ 0) (told : IsTrue a.tells) (linked : IsTable s (a.seen f) i q) (st : Standing s disks first last f a) where
-  hole_at : Writes f (place s q + 8 * j) word a b
-  hole_at = subst (λ (p : ℕ). Writes f p word a b) slot.at call
+-- what is said of each of one
+pub the_one : (P : ℕ → ℕ → Type 0) (j k : ℕ) → ((m : ℕ) → m < 1 → P (j + m) (k + m)) → P j k
+the_one P j k each =
+    let first : j + 0 ≡ j = omega arith in
+    let second : k + 0 ≡ k = omega arith in
+    subst (λ (x : ℕ). P x k) first (subst (λ (y : ℕ). P (j + 0) y) second (each 0 (omega arith)))
 
-  hole_table : st.role q ≡ Of (Table i)
-  hole_table = st.seen.lies.refs (Table i) q linked
+only_one : (P : ℕ → ℕ → Type 0) (j k : ℕ) → P j k → (m : ℕ) → m < 1 → P (j + m) (k + m)
+only_one P j k is m m_in =
+    let first : j ≡ j + m = omega (arith, m_in) in
+    let second : k ≡ k + m = omega (arith, m_in) in
+    subst (λ (x : ℕ). P x (k + m)) first (subst (λ (y : ℕ). P j y) second is)
 
-  hole_spares : Spares (place s q + 8 * j) 8 (a.seen f) (b.seen f)
-  hole_spares = spares_more (place s q + 8 * j) (length word) (place s q + 8 * j) 8 (a.seen f) (b.seen f) (omega arith) (omega (arith, eight)) (torn_spares (place s q + 8 * j) word (a.seen f) (b.seen f) (hole_at.torn told))
+pub one_run : {s : Shape} {i j k at long f : ℕ} {w : World} → IsShape s → i < s.tables → j < per s → IsIn s k at long → Told (IsData s i j k) f w → IsOverwriting s k 1 i j at long f w
+one_run {s} {i} {j} {k} {at} {long} {f} {w} shape i_in j_in inside there = record {
+  shape = shape;
+  index = i_in;
+  slots = omega (arith, j_in);
+  some = inside.some;
+  low = inside.low;
+  high = omega (arith, inside.high, place_next s k);
+  there = λ told. only_one (λ x y. IsData s i x y (w.seen f)) j k (there told);
+}
 
-  pub cleared_others : IsOnly s i j (a.seen f) (b.seen f)
-  cleared_others x y o x_in y_in o_in other =
-      (kept.entry_shows s shape.some st.role (a.seen f) (b.seen f) st.seen.lies st.seen.forms q i j hole_table slot.slot hole_spares x y o x_in y_in o_in other).1
+pub one_row : {s : Shape} {q i j spot f : ℕ} {w : World} → IsShape s → IsSlot s q i j spot → Told (λ c. IsTable s c i q) f w → IsClearing s q i j 1 spot f (replicate 8 0) w
+one_row {s} {q} {i} {j} {spot} {f} {w} shape slot table = record {
+  shape = shape;
+  slots = record { index = slot.index; slots = omega (arith, slot.slot); at = slot.at };
+  zeros = record { long = refl; none = λ t inside. get_or-replicate 8 t 0 0 (omega (arith, inside)) };
+  table = table;
+}
 
-  pub cleared_words : SameWords s (a.seen f) (b.seen f)
-  cleared_words =
-      words_by s shape.some st.role (a.seen f) (b.seen f) st.seen.lies (Of (Table i))
-      (steps.entry_elsewhere s shape.some st.role (a.seen f) (b.seen f) st.seen.lies q i j hole_table slot.slot hole_spares) (λ e. cc) (λ e. cc)
+pub one_rest : {s : Shape} {i j : ℕ} {old new : List ℕ} → LeavesRest s i j 1 old new → LeavesOthers s i j old new
+one_rest {s} {i} {j} {old} {new} leaves = record {
+  keeps = leaves.keeps;
+  but = record {
+    entries = λ x y x_in y_in other. leaves.entries x y x_in y_in (λ here low high. other here (omega (arith, low, high)));
+    disk = λ x y o x_in y_in o_in other. leaves.disk x y o x_in y_in o_in (λ here low high. other here (omega (arith, low, high)));
+  };
+}
 
-  cleared_keeps_links : Keeps s (a.seen f) (b.seen f)
-  cleared_keeps_links = keeps_words s (a.seen f) (b.seen f) cleared_words
-
-  pub cleared : EachSince b a.now f (IsSafe s (b.seen f ∷ disks)) × Standing s (b.seen f ∷ disks) first last f b
-  cleared = leads_stand st st.role (places st) call.run told (still_linked st (b.seen f) cleared_keeps_links.blocks) (hole_leads s shape disks st.role q i j hole_table slot.index slot.slot word eight sound sound_b hole_at says linked)
-
-  pub cleared_leaves : LeavesOthers s i j (a.seen f) (b.seen f)
-  cleared_leaves = record {
-    keeps = cleared_keeps_links;
-    but = record {
-      entries = λ x y x_in y_in other. other_word s shape.some st.role (a.seen f) (b.seen f) st.seen.lies st.seen.forms q i j hole_table slot.slot hole_spares x y x_in y_in other;
-      disk = cleared_others;
-    };
-  }
-
-  cleared_word : b.seen f ≡ overlay (a.seen f) (place s q + 8 * j) word → word_of s (b.seen f) i j ≡ 0
-  cleared_word new =
-      entry_some s (b.seen f) i j q shape.some (cleared_keeps_links.tables i q linked)
-      ∙ ap (λ (c : List ℕ). u64_at c (place s q + 8 * j)) new ∙ word_is s shape disks st.role q i j hole_table slot.index slot.slot word eight (a.seen f) ∙ says
-
-  pub cleared_whether : ((word_of s (b.seen f) i j ≡ word_of s (a.seen f) i j) × ((o : ℕ) → o < s.sectors → ShowsAs s i j o (b.seen f) (a.seen f))) ⊎ (word_of s (b.seen f) i j ≡ 0)
-  cleared_whether = ⊎_elim
-      (λ (same : b.seen f ≡ a.seen f). inl (ap (λ (c : List ℕ). word_of s c i j) same, λ o o_in t low high. ap (λ (c : List ℕ). guest s c i j t) same))
-      (λ (new : b.seen f ≡ overlay (a.seen f) (place s q + 8 * j) word). inr (cleared_word new))
-      (one_sector_write (place s q + 8 * j) word (a.seen f) (b.seen f) ((place s q + 8 * j) / 512) (hole_at.torn told)
-      (entry_inside s shape disks st.role q i j hole_table slot.index slot.slot word eight (a.seen f) st.seen) (omega arith) (omega (arith, eight, sector_at s q 0)))
-
-  pub cleared_done : HasWritten f spot word a b → IsTable s (b.seen f) i q × (word_of s (b.seen f) i j ≡ 0)
-  cleared_done done = (
-    cleared_keeps_links.tables i q linked,
-    cleared_word (done.seen told ∙ ap (λ (p : ℕ). overlay (a.seen f) p word) slot.at),
-  )
-
--- ---- data in place
-
-module _ {s : Shape} {disks : List (List ℕ)} {first last k i j at f : ℕ} {bytes : List ℕ} {a b : World} (shape : IsShape s) (i_in : i < s.tables) (j_in : j < per s) (inside : IsIn s k at (length bytes)) (sound : IsSound a) (sound_b : IsSound b) (call : Writes f at bytes a b)
-    (told : IsTrue a.tells) (is : IsData s i j k (a.seen f)) (st : Standing s disks first last f a) where
-  data_role : st.role k ≡ Of (Guest i j)
-  data_role = st.seen.lies.refs (Guest i j) k is.is
-
-  over_spares : Spares (place s k) (size s) (a.seen f) (b.seen f)
-  over_spares = data_within s shape disks k i j at bytes inside.low inside.high (a.seen f) (b.seen f) (call.torn told)
-
-  pub over_others : IsOnly s i j (a.seen f) (b.seen f)
-  over_others x y o x_in y_in o_in other =
-      kept.other_shows s shape.some st.role (a.seen f) (b.seen f) st.seen.lies st.seen.forms k i j data_role over_spares x y o x_in y_in o_in
-      (λ here. not_here x y (sym (st.seen.lies.refs (Guest x y) k here) ∙ data_role) other)
-    where
-      first_of : (x y : ℕ) → Of (Guest x y) ≡ Of (Guest i j) → x ≡ i
-      first_of x y e = cc
-
-      second_of : (x y : ℕ) → Of (Guest x y) ≡ Of (Guest i j) → y ≡ j
-      second_of x y e = cc
-
-      not_here : (x y : ℕ) → Of (Guest x y) ≡ Of (Guest i j) → (x ≡ i → y ≡ j → ⊥) → ⊥
-      not_here x y e other = other (first_of x y e) (second_of x y e)
-
-  pub over_host : host s (b.seen f) i j ≡ place s k
-  over_host = kept.guest_host s shape.some st.role (a.seen f) (b.seen f) st.seen.lies st.seen.forms k i j data_role over_spares i j i_in j_in ∙ is.at
-
-  pub over_words : SameWords s (a.seen f) (b.seen f)
-  over_words =
-      words_by s shape.some st.role (a.seen f) (b.seen f) st.seen.lies (Of (Guest i j))
-      (within s st.role (Of (Guest i j)) k (a.seen f) (b.seen f) data_role over_spares) (λ e. cc) (λ e. cc)
-
-  over_keeps_links : Keeps s (a.seen f) (b.seen f)
-  over_keeps_links = keeps_words s (a.seen f) (b.seen f) over_words
-
-  pub overwritten : EachSince b a.now f (IsSafe s (b.seen f ∷ disks)) × Standing s (b.seen f ∷ disks) first last f b
-  overwritten = leads_stand st st.role (places st) call.run told (still_linked st (b.seen f) over_keeps_links.blocks) (in_place_leads s shape disks k i j at bytes inside.low inside.high st.role data_role sound sound_b call i_in j_in is.at)
-
-  pub over_shows : HasWritten f at bytes a b → Shows s i j k at bytes (guest s (a.seen f) i j) (b.seen f)
-  over_shows wrote = record {
-    inside = λ t t_in low high.
-        guest_some s (b.seen f) i j t k shape.some inside.some over_host ∙ ap (λ (c : List ℕ). byte c (place s k + t)) (wrote.seen told) ∙ byte-overlay_in (a.seen f) at bytes (place s k + t) low high;
-    outside = λ t t_in out.
-        guest_some s (b.seen f) i j t k shape.some inside.some over_host ∙ ap (λ (c : List ℕ). byte c (place s k + t)) (wrote.seen told) ∙ byte-overlay_outside (a.seen f) at bytes (place s k + t) out
-        ∙ sym (guest_some s (a.seen f) i j t k shape.some inside.some is.at);
-  }
-
-  pub over_entries : (x y : ℕ) → x < s.tables → y < per s → word_of s (b.seen f) x y ≡ word_of s (a.seen f) x y
-  over_entries =
-      quiet_entry s shape.some st.role (a.seen f) (b.seen f) st.seen.lies st.seen.forms (Of (Guest i j)) (within s st.role (Of (Guest i j)) k (a.seen f) (b.seen f) data_role over_spares) (λ e. cc) (λ n e. cc)
-
-  pub over_leaves : LeavesOthers s i j (a.seen f) (b.seen f)
-  over_leaves = record { keeps = over_keeps_links; but = record { entries = λ x y x_in y_in other. over_entries x y x_in y_in; disk = over_others } }
-
-  over_not : (u : Use) (n : ℕ) → u ≡ Of (Guest i j) → u ≡ Of (Block n) → ⊥
-  over_not u n x y = cc
-
-  over_long : place s k + size s ≤ length (a.seen f)
-  over_long = (st.seen.lies.used k (taken_of st.role k (Guest i j) data_role) (λ n e. absurd (over_not (st.role k) n data_role e))).inside
-
-  pub over_partly : IsPartly s i j k at bytes (a.seen f) (b.seen f)
-  over_partly o o_in = ⊎_elim
-      (λ (as_old : AgreesAt (s.sectors * k + o) (b.seen f) (a.seen f)). inl (λ t low high.
-      guest_some s (b.seen f) i j t k shape.some inside.some over_host
-      ∙ as_old (place s k + t) (omega (arith, sector_at s k o)) (omega (arith, sector_at s k o)) (omega (arith, over_long, over_spares.longer, o_in))
-      ∙ sym (guest_some s (a.seen f) i j t k shape.some inside.some is.at)))
-      (λ (as_new : AgreesAt (s.sectors * k + o) (b.seen f) (overlay (a.seen f) at bytes)). inr (λ t low high.
-      guest_some s (b.seen f) i j t k shape.some inside.some over_host
-      ∙ as_new (place s k + t) (omega (arith, sector_at s k o)) (omega (arith, sector_at s k o)) (omega (arith, over_long, over_spares.longer, o_in))))
-      ((call.torn told).sectors (s.sectors * k + o))
+-- an entry lies in one sector
+pub one_either : (s : Shape) (q i j : ℕ) (old new : List ℕ) → ((x : ℕ) → AreUntouched s q i j 1 x old new ⊎ AreCleared s q i j 1 x new)
+    → ((word_of s new i j ≡ word_of s old i j) × ((o : ℕ) → o < s.sectors → ShowsAs s i j o new old)) ⊎ (word_of s new i j ≡ 0)
+one_either s q i j old new whether =
+    let x = (place s q + 8 * j) / 512 in
+    let here : (m : ℕ) → m < 1 → IsInSector s q (j + m) ((place s q + 8 * j) / 512) = (λ m m_in. omega (arith, m_in)) in
+    elim (whether x) [
+      | inl same ↦ inl (the_one (λ y z. (word_of s new i y ≡ word_of s old i y) × ((o : ℕ) → o < s.sectors → ShowsAs s i y o new old)) j j (λ m m_in. same m m_in (here m m_in)))
+      | inr none ↦ inr (the_one (λ y z. word_of s new i y ≡ 0) j j (λ m m_in. none m m_in (here m m_in)))
+    ]
 
 -- ---- a second-level table
 

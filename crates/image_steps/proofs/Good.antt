@@ -5,11 +5,11 @@ use Rattle.std.proofs.Math.Nat.{mul-le-mul_left}
 use Rattle.std.proofs.Math.Pow.{pow_mono}
 use Rattle.std.specs.Int.{from_be_bytes, w64}
 use Rattle.disk_model.specs.Files.{byte, u64_at, overlay, AgreesAt, IsTorn}
-use Rattle.disk_model.proofs.Laws.{IsMixed, whole_torn, number-overlay_same, byte_past}
+use Rattle.disk_model.proofs.Laws.{whole_torn, number-overlay_same, byte_past}
 use Rattle.qc_layout.specs.Disks.{bits_of}
 use Rattle.qc_layout.specs.Owners.{Held}
-use Rattle.image_model.specs.Clusters.{Shape, size, per, place, offset, if_zero, stored, Who, Head, Counts, Block, Tables, Table, Guest, IsBlock, IsTable, Refers, IsCounted, AllCounted, Use, Ready, Of, IsTaken, IsBlank, IsFixed, SameIn, IsZero, IsUsed, IsShape, Lies, IsTableWord, IsGuestWord, host, IsKept, IsGood, IsSafe, IsLink, IsTaking, Bitmaps, IsOwnCount}
-use Rattle.image_steps.proofs.Places.{Spares, torn_spares, spares_more, within, place_some, offset_none}
+use Rattle.image_model.specs.Clusters.{Shape, size, place, offset, if_zero, stored, Who, Head, Counts, Block, Tables, Table, Guest, IsBlock, Refers, IsCounted, AllCounted, Use, Ready, Of, IsTaken, IsBlank, IsFixed, SameIn, IsZero, IsUsed, IsShape, Lies, IsTableWord, IsGuestWord, IsKept, IsGood, IsSafe, IsLink, IsTaking, Bitmaps, IsOwnCount}
+use Rattle.image_steps.proofs.Places.{Spares, torn_spares, spares_more}
 use Rattle.image_steps.proofs.Steps.{taken_of, guest_none_word}
 use Rattle.image_steps.proofs.Kept.{stored_none, host_none, shown}
 use Rattle.image_steps.proofs.Steps as steps
@@ -169,58 +169,6 @@ torn_byte at bytes old new i torn = elim (cases_lt i (length new)) [
   | inr past ↦ inl (byte_past new i (omega (arith, past)))
   | inl inside ↦ inr (⊎_elim (λ (as_old : AgreesAt (i / 512) new old). inl (as_old i (omega arith) (omega arith) inside)) (λ (done : AgreesAt (i / 512) new (overlay old at bytes)). inr (done i (omega arith) (omega arith) inside)) (torn.sectors (i / 512)))
 ]
-
--- ---- data
-
-module _ (s : Shape) (shape : IsShape s) (disks : List (List ℕ)) (k i0 j0 at : ℕ) (bytes : List ℕ) (low : place s k ≤ at) (high : at + length bytes ≤ place s k + size s) where
-  pub data_within : (old new : List ℕ) → IsTorn at bytes old new → Spares (place s k) (size s) old new
-  data_within old new torn = spares_more at (length bytes) (place s k) (size s) old new low high (torn_spares at bytes old new torn)
-
-  -- in place
-  module _ (role : ℕ → Use) (taken : role k ≡ Of (Guest i0 j0)) where
-    pub in_place : (before now old new : List ℕ) → IsGood s role disks before → i0 < s.tables → j0 < per s → host s before i0 j0 ≡ place s k → IsTorn at bytes before now → IsGood s role disks old → IsTorn at bytes old new → IsMixed old now new → IsGood s role (now ∷ disks) new
-    in_place before now old new is i_in j_in there torn_now good torn mixed =
-        let elsewhere = within s role (Of (Guest i0 j0)) k old new taken (data_within old new torn) in
-        record {
-          lies = steps.data_keeps s shape.some role old new good.lies (Of (Guest i0 j0)) elsewhere tt (λ i e. cc) (steps.zeros_on s shape.some role old new good.lies (Of (Guest i0 j0)) elsewhere (λ x. x));
-          forms = steps.quiet_forms s shape.some role old new good.lies (Of (Guest i0 j0)) elsewhere tt good.forms;
-          kept = kept.data_kept s shape.some role old new good.lies good.forms k i0 j0 taken (data_within old new torn) (now ∷ disks) now mixed
-              (λ here. kept.guest_host s shape.some role before now is.lies is.forms k i0 j0 taken (data_within before now torn_now) i0 j0 i_in j_in ∙ there)
-              (more_good s role disks now old good).kept (is_shown s disks now);
-        }
-
--- ---- an entry of a second-level table
-
-module _ (s : Shape) (shape : IsShape s) (disks : List (List ℕ)) (role : ℕ → Use) (q i0 j0 : ℕ) (is_table : role q ≡ Of (Table i0)) (i_in : i0 < s.tables) (j_in : j0 < per s) (bytes : List ℕ) (eight : length bytes ≡ 8) where
-  abbrev slot : ℕ
-  slot = place s q + 8 * j0
-
-  pub entry_inside : (old : List ℕ) → IsGood s role disks old → slot + length bytes ≤ length old
-  entry_inside old good = omega (arith, (good.lies.used q (taken_of role q (Table i0) is_table) (λ b e. absurd (not_block b e))).inside, eight, j_in)
-    where
-      not_block : (b : ℕ) → role q ≡ Of (Block b) → ⊥
-      not_block b e = cc
-
-  pub spared : (old : List ℕ) → Spares slot 8 old (overlay old slot bytes)
-  spared old = spares_more slot (length bytes) slot 8 old (overlay old slot bytes) (omega arith) (omega (arith, eight)) (torn_spares slot bytes old (overlay old slot bytes) (whole_torn slot bytes old))
-
-  pub word_is : (old : List ℕ) → u64_at (overlay old slot bytes) slot ≡ from_be_bytes w64 bytes
-  word_is old = number-overlay_same w64 old slot bytes eight
-
-  -- it becomes a hole
-  pub hole : (before old : List ℕ) → from_be_bytes w64 bytes ≡ 0 → IsGood s role disks before → IsTable s before i0 q → IsGood s role disks old → IsGood s role (overlay before slot bytes ∷ disks) (overlay old slot bytes)
-  hole before old none is linked good =
-      let zero_word : u64_at (overlay old slot bytes) slot ≡ 0 = word_is old ∙ none in
-      let no_offset : offset (u64_at (overlay old slot bytes) slot) ≡ 0 = ap offset zero_word ∙ offset_none in
-      record {
-        lies = steps.entry_keeps s shape.some role old (overlay old slot bytes) good.lies q i0 j0 is_table j_in (spared old)
-            (λ m some at. absurd (omega (arith, place_some s m shape.some some, at, no_offset)));
-        forms = steps.entry_forms s shape.some role old (overlay old slot bytes) good.lies q i0 j0 is_table j_in (spared old) good.forms (subst (IsGuestWord s) (sym zero_word) guest_none_word);
-        kept = kept.hole_kept s shape.some role old (overlay old slot bytes) good.lies good.forms q i0 j0 is_table j_in (spared old) (overlay before slot bytes ∷ disks) (overlay before slot bytes)
-            (ap stored zero_word ∙ stored_none) i_in
-            (kept.new_host s shape.some role before (overlay before slot bytes) is.lies is.forms q i0 j0 is_table j_in (spared before) linked ∙ ap stored (word_is before ∙ none) ∙ stored_none)
-            (is_shown s disks (overlay before slot bytes)) (more_good s role disks (overlay before slot bytes) old good).kept;
-      }
 
 -- ---- an entry of the first level
 

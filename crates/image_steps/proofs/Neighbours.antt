@@ -5,7 +5,7 @@ use Rattle.std.specs.Int.{w64}
 use Rattle.disk_model.specs.Files.{byte, u64_at, overlay, AgreesAt, IsTorn, SomeVersion}
 use Rattle.disk_model.proofs.Laws.{IsMixed, mixed_number, number_either, number_same, number-overlay_part}
 use Rattle.image_model.specs.Clusters.{Shape, size, per, place, offset, stored, Who, Block, Table, Guest, IsTable, Refers, Use, Free, Fresh, Spare, Ready, Of, IsTaken, IsBlank, IsFixed, SameIn, IsUsed, IsShape, Lies, Forms, IsGuestWord, host, ShowsAs, IsGood}
-use Rattle.image_steps.proofs.Places.{Spares, Elsewhere, torn_spares, spares_more, word_spared, spared_cluster, place_more, place_next, sector_at}
+use Rattle.image_steps.proofs.Places.{Spares, Elsewhere, torn_spares, spares_more, word_spared, spared_cluster, place_same, place_more, place_next, sector_at}
 use Rattle.image_steps.proofs.Steps.{taken_of, data_keeps, quiet_forms, zeros_on}
 use Rattle.image_steps.proofs.Good.{Change, recast, more_good, is_shown, IsLinkWord, link_word}
 use Rattle.image_steps.proofs.Kept as kept
@@ -164,19 +164,19 @@ module _ (s : Shape) (shape : IsShape s) (k n at : ℕ) (bytes : List ℕ) (low 
 
 -- ---- entries
 
--- the word that names cluster k + m
+-- word m of those written
 pub record WordAt (n j0 j w : ℕ) (words : List ℕ) : Type 0 where
   pub m : ℕ
   pub low : m < n
   pub is : j ≡ j0 + m
   pub word : w ≡ u64_at words (8 * m)
 
-module _ (s : Shape) (shape : IsShape s) (role : ℕ → Use) (k n q i0 j0 : ℕ) (some : 0 < k) (is_table : role q ≡ Of (Table i0)) (slots_in : j0 + n ≤ per s) (words : List ℕ) (links : AreLinks s k n words) (owners : (m : ℕ) → m < n → role (k + m) ≡ Of (Guest i0 (j0 + m))) where
+module _ (s : Shape) (role : ℕ → Use) (q i0 j0 n : ℕ) (is_table : role q ≡ Of (Table i0)) (slots_in : j0 + n ≤ per s) (words : List ℕ) (long : length words ≡ 8 * n) where
   abbrev spot : ℕ
   spot = place s q + 8 * j0
 
   pub row_spares : (old new : List ℕ) → IsTorn spot words old new → Spares (place s q) (size s) old new
-  row_spares old new torn = spares_more spot (length words) (place s q) (size s) old new (omega arith) (omega (arith, links.long, slots_in)) (torn_spares spot words old new torn)
+  row_spares old new torn = spares_more spot (length words) (place s q) (size s) old new (omega arith) (omega (arith, long, slots_in)) (torn_spares spot words old new torn)
 
   pub table_inside : (old : List ℕ) → Lies s role old → place s q + size s ≤ length old
   table_inside old lies = (lies.used q (taken_of role q (Table i0) is_table) (λ b e. absurd (not_block (role q) b is_table e))).inside
@@ -184,53 +184,28 @@ module _ (s : Shape) (shape : IsShape s) (role : ℕ → Use) (k n q i0 j0 : ℕ
       not_block : (u : Use) (b : ℕ) → u ≡ Of (Table i0) → u ≡ Of (Block b) → ⊥
       not_block u b x y = cc
 
-  used_at : (old : List ℕ) → Lies s role old → (m : ℕ) → m < n → IsUsed s old (k + m)
-  used_at old lies m m_in = lies.used (k + m) (taken_of role (k + m) (Guest i0 (j0 + m)) (owners m m_in)) (λ b e. absurd (not_block (role (k + m)) b (j0 + m) (owners m m_in) e))
-    where
-      not_block : (u : Use) (b y : ℕ) → u ≡ Of (Guest i0 y) → u ≡ Of (Block b) → ⊥
-      not_block u b y x z = cc
-
-  pub said : (old : List ℕ) → Lies s role old → (m : ℕ) → m < n → IsLinkWord s (u64_at words (8 * m)) (k + m)
-  said old lies m m_in = link_word s (k + m) (u64_at words (8 * m)) shape (omega (arith, some)) (used_at old lies m m_in).below (links.link m m_in)
-
   pub part_is : (old : List ℕ) (m j : ℕ) → m < n → j ≡ j0 + m → u64_at (overlay old spot words) (place s q + 8 * j) ≡ u64_at words (8 * m)
   part_is old m j m_in is =
       let at : place s q + 8 * j ≡ spot + 8 * m = omega (arith, is) in
-      ap (λ (p : ℕ). u64_at (overlay old spot words) p) at ∙ number-overlay_part w64 old spot words (8 * m) (omega (arith, links.long, m_in))
+      ap (λ (p : ℕ). u64_at (overlay old spot words) p) at ∙ number-overlay_part w64 old spot words (8 * m) (omega (arith, long, m_in))
 
-  whole : (j : ℕ) → (place s q + 8 * j) % 8 ≡ 0
+  pub whole : (j : ℕ) → (place s q + 8 * j) % 8 ≡ 0
   whole j = omega (arith, sector_at s q 0)
 
   pub word_out : (old new : List ℕ) → IsTorn spot words old new → (j : ℕ) → (j < j0) ⊎ (j0 + n ≤ j) → u64_at new (place s q + 8 * j) ≡ u64_at old (place s q + 8 * j)
   word_out old new torn j out = word_spared spot (length words) old new (place s q + 8 * j) (torn_spares spot words old new torn)
-      (⊎_elim (λ (below : j < j0). inl (omega (arith, below))) (λ (past : j0 + n ≤ j). inr (omega (arith, past, links.long))) out)
+      (⊎_elim (λ (below : j < j0). inl (omega (arith, below))) (λ (past : j0 + n ≤ j). inr (omega (arith, past, long))) out)
 
-  word_at : (old new : List ℕ) → IsTorn spot words old new → place s q + size s ≤ length old → (j : ℕ) → j < per s → Where j0 n j
+  -- an entry is the same, or one of those written
+  pub word_at : (old new : List ℕ) → Lies s role old → IsTorn spot words old new → (j : ℕ) → j < per s
       → (u64_at new (place s q + 8 * j) ≡ u64_at old (place s q + 8 * j)) ⊎ WordAt n j0 j (u64_at new (place s q + 8 * j)) words
-  word_at old new torn long j j_in (Out out) = inl (word_out old new torn j out)
-  word_at old new torn long j j_in (In m m_in is) = ⊎_elim
-      (λ (same : u64_at new (place s q + 8 * j) ≡ u64_at old (place s q + 8 * j)). inl same)
-      (λ (done : u64_at new (place s q + 8 * j) ≡ u64_at (overlay old spot words) (place s q + 8 * j)). inr (record { m = m; low = m_in; is = is; word = done ∙ part_is old m j m_in is }))
-      (number_either w64 spot words old new (place s q + 8 * j) torn (whole j) (omega (arith, long, torn.no_shorter, j_in)))
-
-  pub sets : (old new : List ℕ) → Lies s role old → IsTorn spot words old new → (j : ℕ) → j < per s → (u64_at new (place s q + 8 * j) ≡ u64_at old (place s q + 8 * j)) ⊎ IsSet s role i0 j (u64_at new (place s q + 8 * j))
-  sets old new lies torn j j_in = ⊎_elim
-      (λ (same : u64_at new (place s q + 8 * j) ≡ u64_at old (place s q + 8 * j)). inl same)
-      (λ (w : WordAt n j0 j (u64_at new (place s q + 8 * j)) words).
-      let says = said old lies w.m w.low in
-      inr (record { cluster = k + w.m; at = ap offset w.word ∙ says.offset; owner = owners w.m w.low ∙ ap (λ (y : ℕ). Of (Guest i0 y)) (sym w.is); form = subst (IsGuestWord s) (sym w.word) says.of_guest }))
-      (word_at old new torn (table_inside old lies) j j_in (where_is j0 n j))
-
-  pub not_table : (m : ℕ) → m < n → k + m ≢ q
-  not_table m m_in same = differ (role (k + m)) (j0 + m) (owners m m_in) (ap role same ∙ is_table)
-    where
-      differ : (u : Use) (y : ℕ) → u ≡ Of (Guest i0 y) → u ≡ Of (Table i0) → ⊥
-      differ u y x z = cc
-
-  -- where the word names it
-  pub named_host : (old new : List ℕ) → Lies s role old → Forms s old → IsTorn spot words old new → IsTable s old i0 q → (m j : ℕ) → m < n → u64_at new (place s q + 8 * j) ≡ u64_at words (8 * m) → host s new i0 j ≡ place s (k + m)
-  named_host old new lies forms torn table m j m_in word =
-      rows.rows_new s shape.some role old new lies forms q i0 is_table (row_spares old new torn) (sets old new lies torn) table j ∙ ap stored word ∙ (said old lies m m_in).stored
+  word_at old new lies torn j j_in = elim (where_is j0 n j) [
+    | Out out ↦ inl (word_out old new torn j out)
+    | In m m_in is ↦ ⊎_elim
+        (λ (same : u64_at new (place s q + 8 * j) ≡ u64_at old (place s q + 8 * j)). inl same)
+        (λ (done : u64_at new (place s q + 8 * j) ≡ u64_at (overlay old spot words) (place s q + 8 * j)). inr (record { m = m; low = m_in; is = is; word = done ∙ part_is old m j m_in is }))
+        (number_either w64 spot words old new (place s q + 8 * j) torn (whole j) (omega (arith, table_inside old lies, torn.no_shorter, j_in)))
+  ]
 
   -- the entries of a sector are as before, or as written
   pub sector_either : (old new : List ℕ) → Lies s role old → IsTorn spot words old new → (x : ℕ)
@@ -251,12 +226,47 @@ module _ (s : Shape) (shape : IsShape s) (role : ℕ → Use) (k n q i0 j0 : ℕ
       inside : (m i : ℕ) → m < n → i < place s q + 8 * (j0 + m) + 8 → i < length new
       inside m i m_in high = omega (arith, table_inside old lies, torn.no_shorter, m_in, slots_in, high)
 
-  pub linked_run : (disks : List (List ℕ)) → i0 < s.tables → (before now old new : List ℕ) → IsGood s role disks before → IsTable s before i0 q → ((m : ℕ) → m < n → host s before i0 (j0 + m) ≡ 0) → IsTorn spot words before now
-      → IsGood s role disks old → AreFilled s k n before old → IsTorn spot words old new → IsMixed old now new → IsGood s role (now ∷ disks) new
+module _ (s : Shape) (shape : IsShape s) (role : ℕ → Use) (k n q i0 j0 : ℕ) (some : 0 < k) (is_table : role q ≡ Of (Table i0)) (slots_in : j0 + n ≤ per s) (words : List ℕ) (links : AreLinks s k n words) (owners : (m : ℕ) → m < n → role (k + m) ≡ Of (Guest i0 (j0 + m))) where
+  abbrev from_slot : ℕ
+  from_slot = place s q + 8 * j0
+
+  used_at : (old : List ℕ) → Lies s role old → (m : ℕ) → m < n → IsUsed s old (k + m)
+  used_at old lies m m_in = lies.used (k + m) (taken_of role (k + m) (Guest i0 (j0 + m)) (owners m m_in)) (λ b e. absurd (not_block (role (k + m)) b (j0 + m) (owners m m_in) e))
+    where
+      not_block : (u : Use) (b y : ℕ) → u ≡ Of (Guest i0 y) → u ≡ Of (Block b) → ⊥
+      not_block u b y x z = cc
+
+  pub said : (old : List ℕ) → Lies s role old → (m : ℕ) → m < n → IsLinkWord s (u64_at words (8 * m)) (k + m)
+  said old lies m m_in = link_word s (k + m) (u64_at words (8 * m)) shape (omega (arith, some)) (used_at old lies m m_in).below (links.link m m_in)
+
+  pub sets : (old new : List ℕ) → Lies s role old → IsTorn from_slot words old new → (j : ℕ) → j < per s → (u64_at new (place s q + 8 * j) ≡ u64_at old (place s q + 8 * j)) ⊎ IsSet s role i0 j (u64_at new (place s q + 8 * j))
+  sets old new lies torn j j_in = ⊎_elim
+      (λ (same : u64_at new (place s q + 8 * j) ≡ u64_at old (place s q + 8 * j)). inl same)
+      (λ (w : WordAt n j0 j (u64_at new (place s q + 8 * j)) words).
+      let says = said old lies w.m w.low in
+      inr (record {
+        owner = λ x x_some at. ap role (place_same s x (k + w.m) shape.some (sym at ∙ ap offset w.word ∙ says.offset)) ∙ owners w.m w.low ∙ ap (λ (y : ℕ). Of (Guest i0 y)) (sym w.is);
+        form = subst (IsGuestWord s) (sym w.word) says.of_guest;
+      }))
+      (word_at s role q i0 j0 n is_table slots_in words links.long old new lies torn j j_in)
+
+  pub not_table : (m : ℕ) → m < n → k + m ≢ q
+  not_table m m_in same = differ (role (k + m)) (j0 + m) (owners m m_in) (ap role same ∙ is_table)
+    where
+      differ : (u : Use) (y : ℕ) → u ≡ Of (Guest i0 y) → u ≡ Of (Table i0) → ⊥
+      differ u y x z = cc
+
+  -- where the word names it
+  pub named_host : (old new : List ℕ) → Lies s role old → Forms s old → IsTorn from_slot words old new → IsTable s old i0 q → (m j : ℕ) → m < n → u64_at new (place s q + 8 * j) ≡ u64_at words (8 * m) → host s new i0 j ≡ place s (k + m)
+  named_host old new lies forms torn table m j m_in word =
+      rows.rows_new s shape.some role old new lies forms q i0 is_table (row_spares s role q i0 j0 n is_table slots_in words links.long old new torn) (sets old new lies torn) table j ∙ ap stored word ∙ (said old lies m m_in).stored
+
+  pub linked_run : (disks : List (List ℕ)) → i0 < s.tables → (before now old new : List ℕ) → IsGood s role disks before → IsTable s before i0 q → ((m : ℕ) → m < n → host s before i0 (j0 + m) ≡ 0) → IsTorn from_slot words before now
+      → IsGood s role disks old → AreFilled s k n before old → IsTorn from_slot words old new → IsMixed old now new → IsGood s role (now ∷ disks) new
   linked_run disks i_in before now old new is table none torn_now good filled torn mixed = record {
-    lies = rows.rows_keep s shape.some role old new good.lies good.forms q i0 is_table (row_spares old new torn) (sets old new good.lies torn);
-    forms = rows.rows_forms s shape.some role old new good.lies good.forms q i0 is_table (row_spares old new torn) (sets old new good.lies torn);
-    kept = rows.rows_kept s shape.some role old new good.lies good.forms q i0 is_table (row_spares old new torn) (sets old new good.lies torn) (now ∷ disks) touched (more_good s role disks now old good).kept;
+    lies = rows.rows_keep s shape.some role old new good.lies good.forms q i0 is_table (row_spares s role q i0 j0 n is_table slots_in words links.long old new torn) (sets old new good.lies torn);
+    forms = rows.rows_forms s shape.some role old new good.lies good.forms q i0 is_table (row_spares s role q i0 j0 n is_table slots_in words links.long old new torn) (sets old new good.lies torn);
+    kept = rows.rows_kept s shape.some role old new good.lies good.forms q i0 is_table (row_spares s role q i0 j0 n is_table slots_in words links.long old new torn) (sets old new good.lies torn) (now ∷ disks) touched (more_good s role disks now old good).kept;
   }
     where
       by_word : IsTable s old i0 q → (j o : ℕ) → j < per s → o < s.sectors → (w : WordAt n j0 j (u64_at new (place s q + 8 * j)) words) → u64_at new (place s q + 8 * j) ≡ u64_at now (place s q + 8 * j) → SomeVersion (ShowsAs s i0 j o new) (now ∷ disks)
@@ -265,8 +275,8 @@ module _ (s : Shape) (shape : IsShape s) (role : ℕ → Use) (k n q i0 j0 : ℕ
           let at_new : host s new i0 j ≡ place s (k + w.m) = named_host old new good.lies good.forms torn linked w.m j w.low w.word in
           let at_now : host s now i0 j ≡ place s (k + w.m) = named_host before now is.lies is.forms torn_now table w.m j w.low (sym as_now ∙ w.word) in
           let hole : host s before i0 j ≡ 0 = ap (host s before i0) w.is ∙ none w.m w.low in
-          let same : SameIn s (k + w.m) old new = spared_cluster s q old new (row_spares old new torn) (k + w.m) (not_table w.m w.low) in
-          let same_now : SameIn s (k + w.m) before now = spared_cluster s q before now (row_spares before now torn_now) (k + w.m) (not_table w.m w.low) in
+          let same : SameIn s (k + w.m) old new = spared_cluster s q old new (row_spares s role q i0 j0 n is_table slots_in words links.long old new torn) (k + w.m) (not_table w.m w.low) in
+          let same_now : SameIn s (k + w.m) before now = spared_cluster s q before now (row_spares s role q i0 j0 n is_table slots_in words links.long before now torn_now) (k + w.m) (not_table w.m w.low) in
           let long : place s (k + w.m) + size s ≤ length old = (used_at old good.lies w.m w.low).inside in
           ⊎_elim
           (λ (zeros : (t : ℕ) → 512 * o ≤ t → t < 512 * o + 512 → byte old (place s (k + w.m) + t) ≡ 0). shown s i0 j o new before (now ∷ disks)
@@ -286,5 +296,5 @@ module _ (s : Shape) (shape : IsShape s) (role : ℕ → Use) (k n q i0 j0 : ℕ
           (λ (w : WordAt n j0 j (u64_at new (place s q + 8 * j)) words). ⊎_elim
           (λ (as_old : u64_at new (place s q + 8 * j) ≡ u64_at old (place s q + 8 * j)). inl as_old)
           (λ (as_now : u64_at new (place s q + 8 * j) ≡ u64_at now (place s q + 8 * j)). inr (by_word linked j o j_in o_in w as_now))
-          (mixed_number w64 old now new (place s q + 8 * j) mixed (whole j) (omega (arith, table_inside old good.lies, torn.no_shorter, j_in))))
-          (word_at old new torn (table_inside old good.lies) j j_in (where_is j0 n j))
+          (mixed_number w64 old now new (place s q + 8 * j) mixed (whole s role q i0 j0 n is_table slots_in words links.long j) (omega (arith, table_inside s role q i0 j0 n is_table slots_in words links.long old good.lies, torn.no_shorter, j_in))))
+          (word_at s role q i0 j0 n is_table slots_in words links.long old new good.lies torn j j_in)

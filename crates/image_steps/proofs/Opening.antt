@@ -6,7 +6,7 @@ use Rattle.disk_model.specs.Files.{byte, u16_at, u64_at, overlay, IsTorn}
 use Rattle.disk_model.proofs.Laws.{number_same, byte_past, byte-overlay_in, byte-overlay_outside, length-overlay, torn_elsewhere}
 use Rattle.qc_layout.specs.Owners.{Held}
 use Rattle.image_model.specs.Clusters.{Shape, size, per, place, offset, stored, Who, Head, Counts, Block, Tables, Table, Guest, Bitmaps, Meets, IsBlock, IsTable, IsGuest, Refers, IsCounted, AllCounted, IsOffset, IsTableWord, IsGuestWord, Forms, Use, Free, Fresh, Ready, Of, IsTaken, IsBlank, IsFixed, IsFixedFor, SameIn, Lies, host, pick, ShowsAs, IsGood, IsSafe, IsHeld, IsLonger}
-use Rattle.image_model.specs.Calls.{IsOpened, IsReach}
+use Rattle.image_model.specs.Calls.{IsOpened, IsExtending, IsReach}
 use Rattle.image_steps.proofs.Places.{place_same, place_more, place_next, place_some}
 use Rattle.image_steps.proofs.Good.{torn_byte}
 use Rattle.image_steps.proofs.Kept.{linked_at}
@@ -163,15 +163,17 @@ module _ (s : Shape) (some : 0 < s.sectors) (file : List ℕ) (forms : Forms s f
       none a b c d e g h (Guest i j) is = g i is.linked.inside (j, is)
       none a b c d e g h (Bitmaps held) is = h held is
 
+-- clusters that are referred to lie in a file that reaches past them
+pub reaching : (s : Shape) (whole : ℕ) (file c : List ℕ) → ((who : Who) (k : ℕ) → Refers s file who k → k < whole) → place s whole ≤ length c
+    → (who : Who) (k : ℕ) → Refers s file who k → place s k + size s ≤ length c
+reaching s whole file c below long who k refers = omega (arith, long, place_next s k, place_more s (k + 1) whole (omega (arith, below who k refers)))
+
 -- ---- the roles of a file as an opening finds it
 
 module _ (s : Shape) (next : ℕ) (file : List ℕ) (is : IsOpened s next file) where
   -- what is referred to lies in it
   abbrev pub IsReaching : List ℕ → Type 0
   IsReaching c = (who : Who) (k : ℕ) → Refers s file who k → place s k + size s ≤ length c
-
-  pub reaching : (c : List ℕ) → place s next ≤ length c → IsReaching c
-  reaching c long who k refers = omega (arith, long, place_next s k, place_more s (k + 1) next (omega (arith, is.below who k refers)))
 
   unclaimed : (k : ℕ) → Use
   unclaimed k = ⊎_elim (λ old. Free) (λ new. Fresh) (cases_lt k next)
@@ -327,19 +329,19 @@ module _ (s : Shape) (next : ℕ) (file : List ℕ) (is : IsOpened s next file) 
 
 -- ---- a zero byte at the end makes a file longer
 
-pub reaches : (s : Shape) (next : ℕ) (file : List ℕ) (finish : ℕ) (bytes old new : List ℕ) → length file ≤ finish → finish + 1 ≡ place s next → length bytes ≡ 1 → byte bytes 0 ≡ 0 → IsReach s next file old → IsTorn finish bytes old new → IsReach s next file new
-reaches s next file finish bytes old new short ends one is_zero was torn = record {
+pub reaches : (s : Shape) (next whole finish : ℕ) (file bytes old new : List ℕ) → IsExtending s next whole finish file → length bytes ≡ 1 → byte bytes 0 ≡ 0 → IsReach s next file old → IsTorn finish bytes old new → IsReach s next file new
+reaches s next whole finish file bytes old new is one is_zero was torn = record {
   is = record {
     longer = omega (arith, was.is.longer, torn.no_shorter);
     bytes = λ i. elim (cases_lt i (length file)) [
-      | inl inside ↦ torn_elsewhere finish bytes old new i torn (inl (omega (arith, inside, short))) ∙ was.is.bytes i
+      | inl inside ↦ torn_elsewhere finish bytes old new i torn (inl (omega (arith, inside, is.short))) ∙ was.is.bytes i
       | inr past ↦ ⊎_elim
           (λ (none : byte new i ≡ 0). none ∙ sym (byte_past file i past))
           (λ rest. ⊎_elim (λ (same : byte new i ≡ byte old i). same ∙ was.is.bytes i) (λ (done : byte new i ≡ byte (overlay old finish bytes) i). done ∙ over i past) rest)
           (torn_byte finish bytes old new i torn)
     ];
   };
-  end = omega (arith, torn.no_longer, length-overlay old finish bytes (omega (arith, one)), one, ends, was.end);
+  end = omega (arith, torn.no_longer, length-overlay old finish bytes (omega (arith, one)), one, is.ends, place_more s whole next is.order, was.end);
 }
   where
     over : (i : ℕ) → length file ≤ i → byte (overlay old finish bytes) i ≡ byte file i

@@ -5,8 +5,8 @@ use Rattle.std.specs.Int.{from_be_bytes, w16, w64}
 use Rattle.disk_model.specs.Files.{u16_at, u64_at, overlay, IsTorn}
 use Rattle.disk_model.specs.World.{World, Runs, writes_of, IsSound, Writes, HasWritten, Syncs, HasSynced, EachSince, Leads, Holds}
 use Rattle.disk_model.proofs.Laws.{write_leads, sector_leads, sync_leads, synced_exact, lead_on, lead_from, run_on, since_on, torn_length, number-overlay_same, number-overlay_part, one_sector_write}
-use Rattle.image_model.specs.Clusters.{Shape, size, each, place, Who, Block, IsBlock, IsCounted, Use, Free, Fresh, Ready, Of, IsTaken, IsShape, IsGood, IsSafe, IsOwn, Standing, IsStanding, Moves, IsOwnCount}
-use Rattle.image_model.specs.Calls.{IsToppingUp, IsAddingBlock, IsSettling, AreExactly, Keeps, Resting, Rests, last_after}
+use Rattle.image_model.specs.Clusters.{Shape, size, each, place, Block, IsBlock, IsCounted, Use, Fresh, Ready, Of, IsTaken, IsShape, IsGood, IsSafe, IsOwn, Standing, IsStanding, Moves, IsOwnCount}
+use Rattle.image_model.specs.Calls.{IsToppingUp, IsAddingBlock, IsSettling, AreNamed, Keeps, Resting, Rests, last_after}
 use Rattle.image_steps.proofs.Places.{Spares, Elsewhere, spares_more, torn_ends, place_next, torn_spares, within, place_same, place_some, sector_at}
 use Rattle.image_steps.proofs.Frame as frame
 use Rattle.image_steps.proofs.Links.{SameWords, keeps_on, words_on, keeps_words, words_by, words_block}
@@ -16,7 +16,7 @@ use Rattle.image_model.specs.Calls.{SameGuest, SameTables, SameBlocksBut, Leaves
 use Rattle.image_steps.proofs.Naming.{quiet_alike, alike_on, alike_self}
 use Rattle.image_steps.proofs.Calls.{count_inside}
 use Rattle.image_steps.proofs.Standing.{put, put_here, put_other, Places, AreLinked, places, same_index, same_own, still_linked, holds_of, stand_on, leads_stand}
-use Rattle.image_steps.proofs.Blocks.{topped_counts, topped_growth, topped_up, end_low, end_high, block_row_keeps, block_row_alike, block_growth, block_count, IsPrepared, prepared, block_linked, block_row_counts, block_row_half, growth_bare, count_bare, block_inside, counted_apart, own_change, counted_out, settled_good, keep, kept_taken, kept_or, kept_fresh, kept_block, rested}
+use Rattle.image_steps.proofs.Blocks.{topped_counts, topped_growth, topped_up, end_low, end_high, block_row_keeps, block_row_alike, block_growth, block_count, IsPrepared, prepared, block_linked, block_row_counts, block_row_half, growth_bare, count_bare, block_inside, counted_apart, own_change, counted_out, settled_good, keep, kept_taken, kept_none, kept_fresh, kept_block, kept_back, rested}
 
 -- a write that keeps what is good
 pub good_leads : (s : Shape) (role : ℕ → Use) (disks : List (List ℕ)) {f at : ℕ} {bytes : List ℕ} {a b : World} → IsSound a → IsSound b → Writes f at bytes a b
@@ -711,31 +711,19 @@ module _ {s : Shape} {disks : List (List ℕ)} {first last f : ℕ} {a b : World
       },
     )
 
-    -- clusters that nothing refers to are free, ready ones too
-    module _ (taken : ℕ → Bool) (exactly : AreExactly s taken (b.seen f)) where
+    -- what isn't named is free, and what is and was ready is spare
+    module _ (taken : ℕ → Bool) (named : AreNamed s taken (b.seen f)) where
       abbrev role_rest : ℕ → Use
       role_rest k = keep (taken k) (st.role k)
 
       rest_good : IsGood s role_rest (b.seen f ∷ []) (b.seen f)
-      rest_good = record { lies = rested s st.role taken (b.seen f) exactly.named was_seen.lies; forms = was_seen.forms; kept = is_shown s [] (b.seen f) }
-
-      free_ready : (u : Use) → u ≡ Free → u ≡ Ready → ⊥
-      free_ready u x y = cc
-
-      of_ready : (u : Use) (who : Who) → u ≡ Of who → u ≡ Ready → ⊥
-      of_ready u who x y = cc
-
-      free_of : (u : Use) (who : Who) → u ≡ Free → u ≡ Of who → ⊥
-      free_of u who x y = cc
-
-      of_block : (i k : ℕ) → role_rest k ≡ Of (Block i) → st.role k ≡ Of (Block i)
-      of_block i k e = ⊎_elim (λ (is : role_rest k ≡ st.role k). sym is ∙ e) (λ (is : role_rest k ≡ Free). absurd (free_of (role_rest k) (Block i) is e)) (kept_or (taken k) (st.role k))
+      rest_good = record { lies = rested s st.role taken (b.seen f) named was_seen.lies; forms = was_seen.forms; kept = is_shown s [] (b.seen f) }
 
       own_or : (k : ℕ) → IsTrue (taken k) ⊎ ((i : ℕ) × (st.role k ≡ Of (Block i))) → IsTrue (taken k) ⊎ IsOwn s role_rest k
       own_or k (inl is) = inl is
       own_or k (inr block) = ⊎_elim
           (λ (own : IsOwnCount s block.0 k). inr (block.0, own, kept_block (taken k) (st.role k) block.0 block.1))
-          (λ (linked : IsBlock s (b.seen f) block.0 k). inl (exactly.named (Block block.0) k linked))
+          (λ (linked : IsBlock s (b.seen f) block.0 k). inl (named (Block block.0) k linked))
           (was_seen.lies.blocks block.0 k block.1)
 
       fresh_or : (k : ℕ) → (st.role k ≡ Fresh) ⊎ IsOwn s st.role k → (role_rest k ≡ Fresh) ⊎ IsOwn s role_rest k
@@ -748,20 +736,13 @@ module _ {s : Shape} {disks : List (List ℕ)} {first last f : ℕ} {a b : World
         record {
           role = role_rest;
           named = λ k is. own_or k (kept_taken (taken k) (st.role k) is);
-          linked = λ i k linked. exactly.named (Block i) k linked;
+          linked = λ i k linked. named (Block i) k linked;
           edge = fresh_or last st.edge;
           fresh = λ k from. kept_fresh (taken k) (st.role k) (st.fresh k from);
-          blocks = λ i k of low. same_seen i k (st.linked i k (of_block i k of) low);
-          none = λ k e. ⊎_elim
-              (λ (is : role_rest k ≡ st.role k). none_of k (sym is ∙ e) (kept_taken (taken k) (st.role k) (subst IsTaken (sym e) tt)))
-              (λ (is : role_rest k ≡ Free). free_ready (role_rest k) is e)
-              (kept_or (taken k) (st.role k));
-          one = λ i x y is_x is_y. st.one i x y (of_block i x is_x) (of_block i y is_y);
+          blocks = λ i k of low. same_seen i k (st.linked i k (kept_back (taken k) (st.role k) i of) low);
+          none = λ k ready. kept_none (taken k) (st.role k) ready;
+          one = λ i x y is_x is_y. st.one i x y (kept_back (taken x) (st.role x) i is_x) (kept_back (taken y) (st.role y) i is_y);
           seen = rest_good;
           now = λ c left. subst (IsGood s role_rest (b.seen f ∷ [])) (sym (synced_exact sound syncs synced c left)) rest_good;
         },
       )
-        where
-          none_of : (k : ℕ) → st.role k ≡ Ready → IsTrue (taken k) ⊎ ((i : ℕ) × (st.role k ≡ Of (Block i))) → ⊥
-          none_of k e (inl is) = let who = exactly.exact k is in of_ready (st.role k) who.0 (was_seen.lies.refs who.0 k who.1) e
-          none_of k e (inr block) = of_ready (st.role k) (Block block.0) block.1 e

@@ -190,7 +190,7 @@ module _ {s : Shape} {disks : List (List ℕ)} {first last k n q i j spot f : �
   good = link_good (a.seen f) st.seen
 
   spares : Spares (place s q) (size s) (a.seen f) (b.seen f)
-  spares = row_spares s is.shape link_role k n q i j is.some table_role is.slots.slots words is.links owners (a.seen f) (b.seen f) torn
+  spares = row_spares s link_role q i j n table_role is.slots.slots words is.links.long (a.seen f) (b.seen f) torn
 
   set_words : (y : ℕ) → y < per s → (u64_at (b.seen f) (place s q + 8 * y) ≡ u64_at (a.seen f) (place s q + 8 * y)) ⊎ rows.IsSet s link_role i y (u64_at (b.seen f) (place s q + 8 * y))
   set_words = sets s is.shape link_role k n q i j is.some table_role is.slots.slots words is.links owners (a.seen f) (b.seen f) good.lies torn
@@ -204,7 +204,7 @@ module _ {s : Shape} {disks : List (List ℕ)} {first last k n q i j spot f : �
     where
       by_place : Where j n y → u64_at (b.seen f) (place s q + 8 * y) ≡ u64_at (a.seen f) (place s q + 8 * y)
       by_place (In m m_in at_y) = absurd (other here (omega (arith, at_y)) (omega (arith, at_y, m_in)))
-      by_place (Out out) = word_out s is.shape link_role k n q i j is.some table_role is.slots.slots words is.links owners (a.seen f) (b.seen f) torn y out
+      by_place (Out out) = word_out s link_role q i j n table_role is.slots.slots words is.links.long (a.seen f) (b.seen f) torn y out
 
   pub link_words : SameWords s (a.seen f) (b.seen f)
   link_words =
@@ -257,7 +257,7 @@ module _ {s : Shape} {disks : List (List ℕ)} {first last k n q i j spot f : �
 
   -- whatever the write answered: the entries of a sector are as before, or all of them are linked
   pub link_either : (x : ℕ) → AreAsBefore s q i j n x (a.seen f) (b.seen f) ⊎ AreLinked s k q i j n x words (a.seen f) (b.seen f)
-  link_either x = elim (sector_either s is.shape link_role k n q i j is.some table_role is.slots.slots words is.links owners (a.seen f) (b.seen f) good.lies torn x) [
+  link_either x = elim (sector_either s link_role q i j n table_role is.slots.slots words is.links.long (a.seen f) (b.seen f) good.lies torn x) [
     | inl same ↦ inl (λ m m_in here. entry_some s (b.seen f) i (j + m) q is.shape.some table_b ∙ same m m_in here ∙ sym (entry_some s (a.seen f) i (j + m) q is.shape.some table))
     | inr new ↦ inr (λ m m_in here. link_named m m_in (new m m_in here))
   ]
@@ -265,4 +265,4 @@ module _ {s : Shape} {disks : List (List ℕ)} {first last k n q i j spot f : �
   pub link_done : HasWritten f spot words a b → (m : ℕ) → m < n → IsLinked s i (j + m) (k + m) (u64_at words (8 * m)) (a.seen f) (b.seen f)
   link_done done m m_in =
       let new : b.seen f ≡ overlay (a.seen f) (place s q + 8 * j) words = done.seen told ∙ ap (λ (p : ℕ). overlay (a.seen f) p words) is.slots.at in
-      link_named m m_in (ap (λ (c : List ℕ). u64_at c (place s q + 8 * (j + m))) new ∙ part_is s is.shape link_role k n q i j is.some table_role is.slots.slots words is.links owners (a.seen f) m (j + m) m_in refl)
+      link_named m m_in (ap (λ (c : List ℕ). u64_at c (place s q + 8 * (j + m))) new ∙ part_is s link_role q i j n table_role is.slots.slots words is.links.long (a.seen f) m (j + m) m_in refl)

@@ -1,10 +1,10 @@
 -- From what an opening finds to a standing.
-use Rattle.std.proofs.Common.{◌≡◌, inl, ⊎_elim, ℕ, ◌+◌, ◌≤◌, IsTrue, List, [], ◌∷◌, length, refl, sym, ◌∙◌, ap, subst, arith}
+use Rattle.std.proofs.Common.{◌≡◌, inl, ⊎_elim, ℕ, ◌≤◌, IsTrue, List, [], ◌∷◌, length, refl, sym, ◌∙◌, ap, subst, arith}
 use Rattle.disk_model.specs.Files.{overlay, after_sync}
 use Rattle.disk_model.specs.World.{World, IsSound, Writes, HasWritten, Syncs, HasSynced, EachNow, EachSince, EachSinceSync, Leads, Holds, versions}
 use Rattle.disk_model.proofs.Laws.{write_leads, sync_leads, sync_failed, sync_done, told_by, lead_on, synced_exact, length-overlay}
 use Rattle.image_model.specs.Clusters.{Shape, place, IsGood, IsSafe, Standing, Block}
-use Rattle.image_model.specs.Calls.{IsOpened, IsReach, Beginning}
+use Rattle.image_model.specs.Calls.{IsOpened, IsExtending, IsReach, Beginning}
 use Rattle.image_steps.proofs.Opening.{role_at, role_back, same_block, fresh_from, one_block, opened_good, opened_safe, reaches, IsReaching, reaching}
 
 pub itself : (s : Shape) (next : ℕ) (file : List ℕ) → length file ≤ place s next → IsReach s next file file
@@ -32,19 +32,19 @@ begun_stands {s} {next} {f} {file} {w} begins long same = record {
   now = λ c left. subst (IsGood s (role_at s next file begins.opened) (file ∷ [])) (sym (same c left)) (opened_good s next file begins.opened (w.seen f) begins.seen.is long);
 }
 
-module _ {s : Shape} {next finish f : ℕ} {file : List ℕ} {a b : World} (ends : finish + 1 ≡ place s next) (short : length file ≤ finish) (sound : IsSound a) (sound_b : IsSound b) (call : Writes f finish (0 ∷ []) a b) (told : IsTrue a.tells) (begins : Beginning s next file f a) where
+module _ {s : Shape} {next whole finish f : ℕ} {file : List ℕ} {a b : World} (is : IsExtending s next whole finish file) (sound : IsSound a) (sound_b : IsSound b) (call : Writes f finish (0 ∷ []) a b) (told : IsTrue a.tells) (begins : Beginning s next file f a) where
   abbrev Reach : List ℕ → Type 0
   Reach = IsReach s next file
 
   safe_here : (c : List ℕ) → Reach c → IsSafe s (file ∷ []) c
-  safe_here c is = opened_safe s next file begins.opened c is.is
+  safe_here c reach = opened_safe s next file begins.opened c reach.is
 
   holds : Holds f Reach Reach a
   holds = record { seen = λ t. begins.seen; each = begins.now }
 
   longer_leads : Leads f Reach Reach (IsSafe s (file ∷ [])) Reach Reach a b
   longer_leads = write_leads Reach Reach (IsSafe s (file ∷ [])) Reach Reach sound sound_b call safe_here safe_here
-      (λ is torn. (reaches s next file finish (0 ∷ []) (a.seen f) (b.seen f) short ends refl refl is torn, λ old new was old_torn mixed. reaches s next file finish (0 ∷ []) old new short ends refl refl was old_torn))
+      (λ was torn. (reaches s next whole finish file (0 ∷ []) (a.seen f) (b.seen f) is refl refl was torn, λ old new old_was old_torn mixed. reaches s next whole finish file (0 ∷ []) old new is refl refl old_was old_torn))
 
   told_b : IsTrue b.tells
   told_b = subst IsTrue (sym call.run.goes.tells) told
@@ -70,7 +70,7 @@ module _ {s : Shape} {next finish f : ℕ} {file : List ℕ} {a b : World} (ends
       synced_leads.since holds,
       begun_stands begins_d
           (let at : length (d.seen f) ≡ length (overlay (a.seen f) finish (0 ∷ [])) = ap length (syncs.seen ∙ wrote.seen told) in
-          reaching s next file begins.opened (d.seen f) (omega (arith, at, length-overlay (a.seen f) finish (0 ∷ []) (omega arith), ends)))
+          reaching s whole file (d.seen f) is.below (omega (arith, at, length-overlay (a.seen f) finish (0 ∷ []) (omega arith), is.ends)))
           (synced_exact sound_b syncs synced),
     )
 

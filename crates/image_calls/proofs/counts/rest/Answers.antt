@@ -3,7 +3,7 @@ use Rattle.std.proofs.lemmas.Result.{on_ok_weaker}
 use Rattle.disk_model.specs.World.{HasSynced}
 use Rattle.file_device.proofs.Laws.{settled_on}
 use Rattle.image_model.specs.Clusters.{Shape, IsSafe}
-use Rattle.image_model.specs.Calls.{Told, AreExactly}
+use Rattle.image_model.specs.Calls.{Told, AreNamed}
 use Rattle.image_steps.proofs.Standing.{moves_of}
 use Rattle.image_steps.proofs.Pools.{synced_stands, synced_one, synced_rests}
 use Rattle.image_calls.proofs.counts.rest.Goals as goal
@@ -26,9 +26,9 @@ returns-clause-rests g c =
     let sound = g.met.D.Depot.sound in
     on_ok_weaker c.sync.result
     (λ (synced : HasSynced c.args.file.0 (g.D.Outside.world c.args.depot.now) (g.D.Outside.world c.sync.new.depot)) (s : Shape) (disks : List (List ℕ)) (taken : ℕ → Bool) (first : ℕ) (last : ℕ)
-    (exactly : Told (AreExactly s taken) c.args.file.0 (g.D.Outside.world c.args.depot.now)).
+    (named : Told (AreNamed s taken) c.args.file.0 (g.D.Outside.world c.args.depot.now)).
     moves_of (IsSafe s disks) c.sync.ensures.synced.call.run (sound _)
-    (λ told st. synced_rests (sound _) c.sync.ensures.synced.call told st synced taken (subst (AreExactly s taken) (sym c.sync.ensures.synced.call.seen) (exactly told))))
+    (λ told st. synced_rests (sound _) c.sync.ensures.synced.call told st synced taken (subst (AreNamed s taken) (sym c.sync.ensures.synced.call.seen) (named told))))
     c.sync.ensures.synced.done
 
 pub returns-clause-settled : goal.returns-clause-settled

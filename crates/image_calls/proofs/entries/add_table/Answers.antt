@@ -1,10 +1,8 @@
-use Rattle.std.proofs.Common.{◌≡◌, ℕ, List, IsTrue, length, rules, ap, ◌∙◌}
+use Rattle.std.proofs.Common.{◌≡◌, ℕ, List, length, rules, ap, ◌∙◌}
 use Rattle.std.specs.Int.{from_be_bytes, w64}
 use Rattle.std.proofs.lemmas.Result.{on_ok_weaker}
 use Rattle.std.proofs.lemmas.Nat.{from_be_bytes-to_be_bytes_8}
-use Rattle.disk_model.specs.World.{HasWritten}
-use Rattle.image_model.specs.Clusters.{Shape, IsSafe, IsStanding}
-use Rattle.image_model.specs.Calls.{IsTablePut}
+use Rattle.image_model.specs.Clusters.{IsSafe}
 use Rattle.image_steps.proofs.Standing.{moves_of}
 use Rattle.image_steps.proofs.Entries.{table_added, table_done, table_either, table_leaves, table_words}
 use Rattle.image_calls.proofs.Beside.{wrote_beside}
@@ -25,9 +23,7 @@ returns-clause-linked g c =
     let says : from_be_bytes w64 c.to_be_bytes.result ≡ c.args.entry =
     ap (λ (bs : List ℕ). from_be_bytes w64 bs) c.to_be_bytes.ensures ∙ from_be_bytes-to_be_bytes_8 c.args.entry c.ranges.entry.fits in
     on_ok_weaker c.write.result
-    (λ (done : HasWritten c.args.file.0 c.args.slot c.to_be_bytes.result (g.D.Outside.world c.args.depot.now) (g.D.Outside.world c.write.new.depot)) (s : Shape) (disks : List (List ℕ)) (first : ℕ) (last : ℕ) (t : ℕ) (i : ℕ)
-    (is : IsTablePut s first last t i c.args.slot c.args.entry c.args.file.0 (g.D.Outside.world c.args.depot.now)) (stands : IsStanding s disks first last c.args.file.0 (g.D.Outside.world c.args.depot.now)) (told : IsTrue (g.D.Outside.world c.args.depot.now).tells).
-    table_done is (sound _) (sound _) c.write.ensures.wrote.call eight says told (stands told) done)
+    (λ done s disks first last t i is stands told. table_done is (sound _) (sound _) c.write.ensures.wrote.call eight says told (stands told) done)
     c.write.ensures.wrote.done
 
 pub returns-clause-leaves : goal.returns-clause-leaves

@@ -1,8 +1,6 @@
-use Rattle.std.proofs.Common.{ℕ, ◌∷◌, List, IsTrue, refl}
+use Rattle.std.proofs.Common.{◌∷◌, refl}
 use Rattle.std.proofs.lemmas.Result.{on_ok_weaker}
-use Rattle.disk_model.specs.World.{HasWritten}
-use Rattle.image_model.specs.Clusters.{Shape, IsSafe}
-use Rattle.image_model.specs.Runs.{IsLinking, IsHolding}
+use Rattle.image_model.specs.Clusters.{IsSafe}
 use Rattle.image_steps.proofs.Standing.{moves_of}
 use Rattle.image_steps.proofs.RunCalls.{linked, link_leaves, link_either, link_data, link_done, link_words}
 use Rattle.image_calls.proofs.Beside.{wrote_beside}
@@ -27,9 +25,7 @@ pub returns-clause-linked : goal.returns-clause-linked
 returns-clause-linked g c =
     let sound = g.met.D.Depot.sound in
     on_ok_weaker c.write.result
-    (λ (done : HasWritten c.args.file.0 c.args.spot c.args.entries.now (g.D.Outside.world c.args.depot.now) (g.D.Outside.world c.write.new.depot)) (s : Shape) (disks : List (List ℕ)) (first : ℕ) (last : ℕ) (k : ℕ) (n : ℕ) (q : ℕ) (i : ℕ) (j : ℕ)
-    (is : IsLinking s first k n q i j c.args.spot c.args.file.0 c.args.entries.now (g.D.Outside.world c.args.depot.now)) (holds : IsHolding s disks k n first last c.args.file.0 (g.D.Outside.world c.args.depot.now)) (told : IsTrue (g.D.Outside.world c.args.depot.now).tells).
-    link_done is (sound _) (sound _) c.write.ensures.wrote.call told (holds told) done)
+    (λ done s disks first last k n q i j is holds told. link_done is (sound _) (sound _) c.write.ensures.wrote.call told (holds told) done)
     c.write.ensures.wrote.done
 
 pub returns-clause-stays : goal.returns-clause-stays

@@ -1,8 +1,6 @@
-use Rattle.std.proofs.Common.{ℕ, List, IsTrue, length, refl}
+use Rattle.std.proofs.Common.{refl}
 use Rattle.std.proofs.lemmas.Result.{on_ok_weaker}
-use Rattle.disk_model.specs.World.{HasWritten}
-use Rattle.image_model.specs.Clusters.{Shape, IsSafe, IsStanding}
-use Rattle.image_model.specs.Runs.{IsFilling}
+use Rattle.image_model.specs.Clusters.{IsSafe}
 use Rattle.image_steps.proofs.Standing.{moves_of}
 use Rattle.image_steps.proofs.RunCalls.{filled, fill_leaves, fill_data, fill_words}
 use Rattle.image_calls.proofs.Beside.{wrote_beside}
@@ -22,9 +20,7 @@ pub returns-clause-there : goal.returns-clause-there
 returns-clause-there g c =
     let sound = g.met.D.Depot.sound in
     on_ok_weaker c.write.result
-    (λ (done : HasWritten c.args.file.0 c.args.at c.args.bytes.now (g.D.Outside.world c.args.depot.now) (g.D.Outside.world c.write.new.depot)) (s : Shape) (disks : List (List ℕ)) (first : ℕ) (last : ℕ) (k : ℕ) (n : ℕ)
-    (is : IsFilling s first last k n c.args.at (length c.args.bytes.now) c.args.file.0 (g.D.Outside.world c.args.depot.now)) (stands : IsStanding s disks first last c.args.file.0 (g.D.Outside.world c.args.depot.now)) (told : IsTrue (g.D.Outside.world c.args.depot.now).tells).
-    fill_data is (sound _) (sound _) c.write.ensures.wrote.call told (stands told) done)
+    (λ done s disks first last k n is stands told. fill_data is (sound _) (sound _) c.write.ensures.wrote.call told (stands told) done)
     c.write.ensures.wrote.done
 
 pub returns-clause-rows : goal.returns-clause-rows
