@@ -13,7 +13,7 @@ use Rattle.cluster_pool.specs.Sets.{with_member}
 use Rattle.cluster_pool.specs.Pool.{Pool, IsPool, IsPutAt, each, reach, block_of, is_own_block, becomes_block, is_open, fresh}
 use Rattle.cluster_pool.proofs.Words.{is_in-with, is_in-with_other}
 use Rattle.cluster_pool.proofs.Counting.{one_if, count-suc, count_same, count_one_less}
-use Rattle.cluster_pool.proofs.Sizes.{each_some, place_same, place_none}
+use Rattle.cluster_pool.proofs.Sizes.{each_some, place_of_same, place_none}
 
 -- the cluster is no block, and becomes none
 abbrev pub plain : Pool → ℕ → Bool
@@ -161,7 +161,7 @@ module _ (p : Pool) (h : IsPool p) (missing : block_of p p.prepared ≡ 0) (some
             elim (cases_eq (k / each p) (p.prepared / each p)) [
               | inl one ↦
                   let stands : block_of q k ≡ place_of p.bits p.prepared = ap (λ (i : ℕ). get_or bs i 0) one ∙ put.there in
-                  let owns : is_own_block q k ≡ false = ne_eqb (block_of q k) (place_of p.bits k) (λ e. other (place_same p.bits k p.prepared (sym e ∙ stands))) in
+                  let owns : is_own_block q k ≡ false = ne_eqb (block_of q k) (place_of p.bits k) (λ e. other (place_of_same p.bits k p.prepared (sym e ∙ stands))) in
                   let full : (block_of q k == 0) ≡ false = ne_eqb (block_of q k) 0 (λ e. let none : p.prepared ≡ 0 = place_none p.bits p.prepared (sym stands ∙ e) in omega arith) in
                   let becomes : becomes_block q k ≡ false = ap (λ (b : Bool). b && (k == max p.next (k / each p * each p))) full in
                   let was : plain p k ≡ true = others_plain k low other one in

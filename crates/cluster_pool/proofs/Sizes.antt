@@ -21,12 +21,6 @@ each_shifted bits low high = one_shl (bits - 1) 64 (omega arith) ∙ sym (half_c
 pub each_some : (bits : ℕ) → 9 ≤ bits → 0 < counts_in bits
 each_some bits low = omega (arith, half_cluster bits low, pow_pos (bits - 1))
 
-pub each_few : (bits : ℕ) → 9 ≤ bits → bits ≤ 21 → counts_in bits ≤ 2 ^ 20
-each_few bits low high =
-    let small : bits - 1 ≤ 20 = omega arith in
-    let most : 2 ^ (bits - 1) ≤ 2 ^ 20 = pow_mono small in
-    omega (arith, half_cluster bits low)
-
 pub cluster_small : (bits : ℕ) → bits ≤ 21 → 2 ^ bits ≤ 2 ^ 21
 cluster_small bits high = pow_mono high
 
@@ -41,9 +35,9 @@ place_fits bits k high below =
     let most : k * 2 ^ bits ≤ k * 2 ^ 21 = mul-le-mul_left k (cluster_small bits high) in
     omega arith
 
-pub place_same : (bits j k : ℕ) → place_of bits j ≡ place_of bits k → j ≡ k
+pub place_of_same : (bits j k : ℕ) → place_of bits j ≡ place_of bits k → j ≡ k
 unfolding place_of
-place_same bits j k e = grind (arith, common_steps, pow_pos)
+place_of_same bits j k e = grind (arith, common_steps, pow_pos)
 
 pub place_none : (bits k : ℕ) → place_of bits k ≡ 0 → k ≡ 0
 unfolding place_of

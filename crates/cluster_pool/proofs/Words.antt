@@ -37,6 +37,12 @@ is_in-with_other s k j other = elim (cases_lt j (length s)) [
   | inr past ↦ is_in-set_of_any (length s) _ j past ∙ sym (past_set s j past)
 ]
 
+pub is_in-with_member : (s : List Bool) (k j : ℕ) → k < length s → is_in (with_member s k) j ≡ ((j == k) || is_in s j)
+is_in-with_member s k j inside = elim (cases_eq j k) [
+  | inl same ↦ ap (is_in (with_member s k)) same ∙ is_in-with s k inside ∙ sym (ap (λ (b : Bool). b || is_in s j) (eq-eqb j k same))
+  | inr other ↦ is_in-with_other s k j other ∙ sym (ap (λ (b : Bool). b || is_in s j) (ne_eqb j k other))
+]
+
 pub is_in-without : (s : List Bool) (k : ℕ) → is_in (without_member s k) k ≡ false
 unfolding without_member
 is_in-without s k = elim (cases_lt k (length s)) [

@@ -194,7 +194,7 @@ impl Pool {
         }
     }
 
-    /// Nothing refers to a cluster any more.
+    /// Nothing refers to a cluster any more. One before the first fresh cluster isn't handed out again; any other is fresh again.
     pub fn give_back(&mut self, index: u64)
         requires { IsTrue (is_in self.old.spoken index) }
         ensures given { self.new ≡ given_back self.old index }

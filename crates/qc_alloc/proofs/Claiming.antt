@@ -24,7 +24,7 @@ use Rattle.qc_alloc.specs.Opening.{rule_of}
 use Rattle.qc_alloc.specs.Tables.{IsClaimFault, IsLayout, IsLayoutOf, claimed_after, Stops, Knows, Gone, Went, Names, IsKept}
 use Rattle.qc_alloc.proofs.Passing.{claimed_after-append, passes_none, passes_on, stops_on, stops_more, passes_claim, stops_claim, each_more, each_at, mapped_more, mapped_at}
 use Rattle.qc_alloc.proofs.Layouts.{clusters_of_file}
-use Rattle.qc_alloc.proofs.Noting.{in_with, in_other}
+use Rattle.cluster_pool.proofs.Words.{is_in-with_member, is_in-with_other}
 
 -- ---- one claim
 
@@ -56,7 +56,7 @@ kept_claim : (p : Pool) (k : ℕ) → k < p.prepared → IsKept p (claimed p k)
 kept_claim p k below = record {
   is = refl;
   ready = λ e. ap (λ (ks : List ℕ). filter (λ m. not (m == k)) ks) e;
-  spoken = λ j high. in_other p.spoken k j (λ same. absurd (omega arith));
+  spoken = λ j high. is_in-with_other p.spoken k j (λ same. absurd (omega arith));
 }
 
 pub claim_kept : {T : Type 0} (p q : Pool) (k : ℕ) (result : Result T ClusterRefusal) → IsPool p → OnOk result ((claim_refusal p k ≡ None) × (q ≡ claimed p k)) → OnErr result (q ≡ p) → IsKept p q
@@ -67,10 +67,10 @@ pub claim_below : {T : Type 0} (p q : Pool) (k : ℕ) (result : Result T Cluster
 claim_below p q k (Ok value) is done = claimed_below p k is done.0
 claim_below p q k (Err why) is done = tt
 
-knows_claim : (p : Pool) (file before : List ℕ) (k : ℕ) → IsPool p → Knows p file before → Knows (claimed p k) file (k ∷ before)
-knows_claim p file before k is knows = record {
+knows_claim : (p : Pool) (file before : List ℕ) (k : ℕ) → IsPool p → k < reach p → Knows p file before → Knows (claimed p k) file (k ∷ before)
+knows_claim p file before k is near knows = record {
   blocks = record { bits = knows.blocks.bits; count = knows.blocks.count; blocks = knows.blocks.blocks };
-  spoken = λ j below. in_with p.spoken k j (let e : length p.spoken ≡ reach p = is.spoken in omega arith) ∙ (ap (λ (b : Bool). b || is_in p.spoken j) (flip j k) ∙ ap (λ (b : Bool). (k == j) || b) (knows.spoken j below));
+  spoken = λ j below. is_in-with_member p.spoken k j (omega (arith, is.spoken, near)) ∙ (ap (λ (b : Bool). b || is_in p.spoken j) (flip j k) ∙ ap (λ (b : Bool). (k == j) || b) (knows.spoken j below));
   counted = knows.counted;
 }
   where
@@ -83,7 +83,7 @@ pub claim_went : {T : Type 0} (p q : Pool) (k : ℕ) (result : Result T ClusterR
 claim_went p q k (Ok value) exact is refused done file before owner knows =
     let same = exact p file before k is knows.blocks knows.spoken knows.counted in
     let P : Pool → Type 0 = λ x. Gone file before (Claim owner k ∷ []) x in
-    subst P (sym done.1) (record { passes = passes_claim file before owner k (sym same ∙ done.0); knows = knows_claim p file before k is knows })
+    subst P (sym done.1) (record { passes = passes_claim file before owner k (sym same ∙ done.0); knows = knows_claim p file before k is (claimable p k done.0).below knows })
 claim_went p q k (Err why) exact is refused done file before owner knows =
     let same = exact p file before k is knows.blocks knows.spoken knows.counted in
     (refused.0, stops_claim file before owner k (rule_of why) refused.0 (sym same ∙ sym refused.1))

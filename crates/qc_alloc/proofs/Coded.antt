@@ -5,10 +5,11 @@ use Rattle.disk_model.specs.World.{World, Parts, Runs}
 use Rattle.qc_layout.specs.Disks.{place_of, counts_in}
 use Rattle.image_model.specs.Calls.{AreOnes}
 use Rattle.cluster_pool.specs.Pool.{each, reach, block_of, HasAddedBlock}
+use Rattle.cluster_pool.proofs.Sizes.{each_shifted}
 use Rattle.qc_alloc.specs.Allocator.{Allocator, IsAllocator}
-use Rattle.qc_alloc.specs.Growing.{Raises, Grows}
+use Rattle.qc_alloc.specs.Growing.{Raises, Grows, NamesBlocks}
 use Rattle.qc_alloc.proofs.Raising.{place_of_some}
-use Rattle.qc_alloc.proofs.Sizes.{place_shifted, each_shifted}
+use Rattle.qc_alloc.proofs.Sizes.{place_shifted}
 use Rattle.qc_alloc.proofs.Grown.{Counts, counted_grows, Adds, IsEither, IsLinking, half_grows, added_grows}
 
 -- where a cluster begins, and how many counts a block has
@@ -41,7 +42,7 @@ module _ (a : Allocator) (is_a : IsAllocator a) (bits last : ℕ) (bits_is : bit
       → block ≡ block_of a.pool a.pool.prepared
       → a.pool.prepared % each a.pool + n ≤ each a.pool → a.pool.prepared + n ≤ reach a.pool → length counts ≡ 2 * n → AreOnes n counts
       → Counts a.file a.pool.prepared n on (shifted bits (last + n) - 1) (block + 2 * (last % half bits)) counts old new
-      → (b : Allocator) → b.file ≡ a.file → b.table ≡ a.table → b.pool ≡ record a.pool { prepared = on } → Grows a b old new
+      → (b : Allocator) → b.file ≡ a.file → b.table ≡ a.table → b.pool ≡ record a.pool { prepared = on } → Grows a b old new × NamesBlocks a b old new
   counted_at n on block counts old new run some linked block_is within below long ones call =
       counted_grows a is_a n on (shifted bits (last + n) - 1) (block + 2 * (last % half bits)) counts old new run some linked within below long ones
       (ap (λ (x : ℕ). x + 2 * (last % half bits)) block_is ∙ ap (λ (x : ℕ). block_of a.pool a.pool.prepared + 2 * x) slot_is)
@@ -72,7 +73,7 @@ module _ (a : Allocator) (is_a : IsAllocator a) (bits last : ℕ) (bits_is : bit
         spot_at (finish_at 1 (omega arith) (omega (arith, below))) end_at table_at word_at call either a same refl refl refl
 
     pub added_at : on ≡ a.pool.prepared + 1 → IsLinking a.file a.pool.prepared (shifted bits (last + 1) - 1) end (shifted bits last + 2 * (last % half bits)) (a.table + 8 * (last / half bits)) (shifted bits last) old new
-        → (b : Allocator) → b.file ≡ a.file → b.table ≡ a.table → HasAddedBlock a.pool b.pool → Raises a.pool b.pool → Grows a b old new
+        → (b : Allocator) → b.file ≡ a.file → b.table ≡ a.table → HasAddedBlock a.pool b.pool → Raises a.pool b.pool → Grows a b old new × NamesBlocks a b old new
     added_at more linking b file table added raises =
         added_grows a is_a on (shifted bits (last + 1) - 1) end (shifted bits last + 2 * (last % half bits)) (a.table + 8 * (last / half bits)) (shifted bits last) old new run missing below
         spot_at (finish_at 1 (omega arith) (omega (arith, below))) end_at table_at word_at call linking b more file table added raises

@@ -5,7 +5,7 @@ use Rattle.std.specs.Result.{IsErrAnd}
 use Rattle.std.proofs.lemmas.Grind.{common_steps}
 use Rattle.std.proofs.lemmas.Bool.{cases_lt}
 use Rattle.disk_model.specs.Files.{reading, u64_at}
-use Rattle.disk_model.specs.World.{World, Runs, reads_of}
+use Rattle.disk_model.specs.World.{World, Runs, reads_of, IsQuiet}
 use Rattle.disk_model.proofs.Laws.{number-reading, number_read, reading_inside}
 use Rattle.qc_layout.specs.declared.faults.ImageFault.{ImageFault}
 use Rattle.qc_alloc.specs.declared.tables.Layout.{Layout}
@@ -56,6 +56,7 @@ err_is P e (Err x) same is = subst P (sym same) is
 -- so much of the table was read
 pub record HasRead (l : Layout) (f count : ℕ) (blocks : List ℕ) (a b : World) : Type 0 where
   pub run : Runs (reads_of f) a b
+  pub quiet : IsQuiet a b
   pub few : length blocks ≤ count
   pub are : AreBlocks l blocks
   pub words : IsTrue a.tells → AreWords l (a.seen f) blocks

@@ -1,8 +1,8 @@
 -- What calls that prepare clusters do to an allocator and to the file, by the clauses of the calls on the image.
-use Rattle.std.proofs.Common.{◌≡◌, ◌≢◌, ◌⊎◌, inl, inr, ⊎_elim, ℕ, ◌+◌, ◌*◌, ◌/◌, ◌%◌, ◌^◌, ◌<◌, ◌≤◌, max, List, [], ◌++◌, length, All, IsTrue, ◌==◌}
+use Rattle.std.proofs.Common.{◌≡◌, ◌≢◌, ◌⊎◌, inl, inr, ⊎_elim, ℕ, ◌+◌, ◌-◌, ◌*◌, ◌/◌, ◌%◌, ◌^◌, ◌<◌, ◌≤◌, max, List, [], ◌++◌, length, All, IsTrue, ◌==◌}
 use Rattle.std.proofs.Common.{cond, slice_index, Ok, refl, sym, ◌∙◌, ap, subst, append-nil, arith}
-use Rattle.std.proofs.lemmas.Bool.{cases_eq}
-use Rattle.std.proofs.lemmas.Nat.{div_below}
+use Rattle.std.specs.Int.{w16}
+use Rattle.std.proofs.lemmas.Bool.{cases_eq, cases_lt}
 use Rattle.std.proofs.Math.Nat.{div-add-mod, mod-lt}
 use Rattle.std.proofs.lemmas.List.Elements.{All-append, All-weaker, All-nil}
 use Rattle.disk_model.specs.Files.{u64_at}
@@ -11,21 +11,23 @@ use Rattle.disk_model.specs.declared.depot.Failed.{Failed}
 use Rattle.disk_model.specs.declared.depot.WriteRefusal.{WriteRefusal}
 use Rattle.file_device.specs.Calls.{Puts}
 use Rattle.file_device.proofs.Laws.{calls_none, calls_ok, puts_on}
-use Rattle.disk_model.proofs.Laws.{since_now, told_at, stay}
+use Rattle.disk_model.proofs.Laws.{since_now, told_at, stay, number_same}
 use Rattle.qc_layout.specs.Disks.{place_of, counts_in, bits_of, blocks_in}
-use Rattle.image_model.specs.Clusters.{Shape, size, each, place, IsBlock, IsSafe, IsStanding, Moves}
-use Rattle.image_model.specs.Calls.{Told, IsToppingUp, AreOnes, IsAddingBlock, IsMissing, LeavesGuest, SameTables, SameBlocks, SameBlocksBut, SameBeside}
+use Rattle.image_model.specs.Clusters as clusters
+use Rattle.image_model.specs.Clusters.{Shape, Fresh, Of, size, each, place, Meets, IsBlock, IsCounted, IsOwn, IsSafe, IsStanding, Moves}
+use Rattle.image_model.specs.Calls.{Told, IsToppingUp, AreOnes, IsAddingBlock, IsMissing, LeavesGuest, LeavesCounts, SameTables, SameBlocks, SameBlocksBut, SameBeside}
 use Rattle.image_model.specs.Calls.{IsWithin}
 use Rattle.image_steps.proofs.Good.{safe}
 use Rattle.image_steps.proofs.Links.{keeps_on}
 use Rattle.image_steps.proofs.Naming.{alike_on, alike_self}
-use Rattle.image_steps.proofs.Places.{place_step, place_apart, place_same}
-use Rattle.image_steps.proofs.Standing.{moves_on}
+use Rattle.image_steps.proofs.Places.{place_step, place_next, place_some, place_apart, place_same}
+use Rattle.image_steps.proofs.Standing.{moves_on, same_index}
 use Rattle.cluster_pool.specs.Pool as pools
 use Rattle.cluster_pool.specs.Pool.{Pool, reach, block_at, block_of, HasAddedBlock, HasTakenRun}
-use Rattle.qc_alloc.specs.Allocator.{Allocator, IsAllocator, IsOf, IsHalfAdded, HasTable, Allocates}
-use Rattle.qc_alloc.specs.Growing.{Raises, SparesClaimed, Grows}
-use Rattle.qc_alloc.proofs.Raising.{raises_none, each_some}
+use Rattle.cluster_pool.proofs.Sizes.{each_some, block_inside}
+use Rattle.qc_alloc.specs.Allocator.{Allocator, IsAllocator, IsOf, IsHalfAdded, HasBlocks, HasTable, Allocates, HandsOut}
+use Rattle.qc_alloc.specs.Growing.{Raises, SparesClaimed, KeepsCounts, Grows, NamesBlocks, MendsBlocks}
+use Rattle.qc_alloc.proofs.Raising.{raises_none}
 
 -- ---- numbers of the shape
 
@@ -69,6 +71,7 @@ pub record Step (a b : Allocator) (s : Shape) (disks : List (List ℕ)) (first :
   pub leaves : IsTrue old.tells → LeavesGuest s (old.seen a.file) (new.seen a.file)
   pub tables : IsTrue old.tells → SameTables s (old.seen a.file) (new.seen a.file)
   pub spares : IsTrue old.tells → SparesClaimed s a (old.seen a.file) (new.seen a.file)
+  pub counts : IsTrue old.tells → KeepsCounts s a (old.seen a.file) (new.seen a.file)
   pub table : IsTrue old.tells → HasTable s b (new.seen a.file)
 
 module _ {parts : Parts} (a b : Allocator) (old new : World) (run : Runs parts old new) (file : b.file ≡ a.file) (table : b.table ≡ a.table) (goes : Follows a.pool b.pool)
@@ -83,6 +86,10 @@ module _ {parts : Parts} (a b : Allocator) (old new : World) (run : Runs parts o
     };
     stands = subst (λ (f : ℕ). IsStanding s disks first b.pool.prepared f new) (sym file) ((steps s disks first is).moves.stands is.stands);
     table = subst (λ (f : ℕ). Told (HasTable s b) f new) (sym file) (λ told. (steps s disks first is).table (subst IsTrue run.goes.tells told));
+  }
+
+  hands_on : (first : ℕ) → HandsOut first a → HandsOut first b
+  hands_on first is = record {
     ready = subst (All (λ k. first ≤ k)) (sym goes.ready)
         (All-append (λ k. first ≤ k) a.pool.ready goes.more is.ready (All-weaker (λ k. a.pool.next ≤ k) (λ k. first ≤ k)
         (λ k low. omega (arith, low, is.fresh)) goes.more goes.fresh));
@@ -93,10 +100,12 @@ module _ {parts : Parts} (a b : Allocator) (old new : World) (run : Runs parts o
   grows_by = record {
     file = file;
     table = table;
+    hands = hands_on;
     moves = λ s disks first. record { since = λ is. (steps s disks first is).moves.since is.stands; stands = allocates_on s disks first };
     leaves = λ s disks first is told. (steps s disks first is).leaves told;
     tables = λ s disks first is told. (steps s disks first is).tables told;
     spares = λ s disks first is told. (steps s disks first is).spares told;
+    counts = λ s disks first is told. (steps s disks first is).counts told;
   }
 
 leaves_on : (s : Shape) (a b c : List ℕ) → LeavesGuest s a b → LeavesGuest s b c → LeavesGuest s a c
@@ -125,6 +134,7 @@ module _ {parts others : Parts} (a b c : Allocator) (old mid new : World) (run :
   grows_on = record {
     file = second.file ∙ first.file;
     table = second.table ∙ first.table;
+    hands = λ low is. second.hands low (first.hands low is);
     moves = λ s disks low. moves_on run next (λ x is. is) (first.moves s disks low)
         (λ is. subst (λ (f : ℕ). Moves f (IsSafe s disks) (Allocates s disks low b) (Allocates s disks low c) mid new) first.file (second.moves s disks low));
     leaves = λ s disks low is told. leaves_on s _ _ _ (first.leaves s disks low is told)
@@ -135,18 +145,47 @@ module _ {parts others : Parts} (a b c : Allocator) (old mid new : World) (run :
         at_a (SparesClaimed s b) (second.spares s disks low ((first.moves s disks low).stands is) (told_on told)) k (omega (arith, below, raises.prepared)) none
         (no_block s is.is k below apart) x from to
         ∙ first.spares s disks low is told k below none apart x from to;
+    counts = λ s disks low is told k many below was.
+        at_a (KeepsCounts s b) (second.counts s disks low ((first.moves s disks low).stands is) (told_on told)) k many (omega (arith, below, raises.prepared))
+        (first.counts s disks low is told k many below was);
   }
+
+  pub names_on : NamesBlocks b c mid new → MendsBlocks a c old new
+  names_on names = record {
+    words = λ s disks low either is told. at_a (λ x y. HasBlocks s c y) (names.words s disks low ((first.moves s disks low).stands is) (told_on told));
+  }
+
+-- a pool with the same blocks, of which as much is prepared
+pub mends_same : (a b c : Allocator) (old new : World) → c.pool.blocks ≡ b.pool.blocks → c.pool.prepared ≡ b.pool.prepared → MendsBlocks a b old new → MendsBlocks a c old new
+mends_same a b c old new blocks prepared mends = record {
+  words = λ s disks first either is told i inside.
+      mends.words s disks first (subst (λ (x : ℕ). (a.pool.prepared < x) ⊎ Told (HasBlocks s a) a.file old) prepared either) is told i inside
+      ∙ ap (λ (xs : List ℕ). slice_index xs i) (sym blocks);
+}
+
+pub mends_none : (a : Allocator) (w : World) → MendsBlocks a a w w
+mends_none a w = record {
+  words = λ s disks first either is told.
+      ⊎_elim (λ (less : a.pool.prepared < a.pool.prepared). absurd (omega (arith, less))) (λ (was : Told (HasBlocks s a) a.file w). was told) either;
+}
+
+-- ---- allocators with the same blocks, of which as much is prepared
+
+module _ (s : Shape) (a b : Allocator) (file : List ℕ) (bits : b.pool.bits ≡ a.pool.bits) (blocks : b.pool.blocks ≡ a.pool.blocks) (prepared : b.pool.prepared ≡ a.pool.prepared) where
+  pub half_same : (i : ℕ) → IsHalfAdded s a i file → IsHalfAdded s b i file
+  half_same i half = record {
+    missing = ap (λ (x : List ℕ). slice_index x i) blocks ∙ half.missing;
+    counts = half.counts ∙ ap (λ (x : ℕ). x / pools.each a.pool) (sym prepared) ∙ ap (λ (x : ℕ). b.pool.prepared / counts_in x) (sym bits);
+    word = half.word ∙ ap (place s) (sym prepared);
+  }
+
+  pub table_same : HasTable s a file → HasTable s b file
+  table_same has i inside =
+      ⊎_elim (λ same. inl (same ∙ ap (λ (x : List ℕ). slice_index x i) (sym blocks))) (λ half. inr (half_same i half)) (has i inside)
 
 -- ---- no call
 
 module _ (a b : Allocator) (w : World) (sound : IsSound w) (file : b.file ≡ a.file) (table : b.table ≡ a.table) (goes : Follows a.pool b.pool) (blocks : b.pool.blocks ≡ a.pool.blocks) (prepared : b.pool.prepared ≡ a.pool.prepared) where
-  half_stays : (s : Shape) (i : ℕ) (c : List ℕ) → IsHalfAdded s a i c → IsHalfAdded s b i c
-  half_stays s i c half = record {
-    missing = ap (λ (x : List ℕ). slice_index x i) blocks ∙ half.missing;
-    counts = half.counts ∙ ap (λ (x : ℕ). x / pools.each a.pool) (sym prepared) ∙ ap (λ (x : ℕ). b.pool.prepared / counts_in x) (sym goes.bits);
-    word = half.word ∙ ap (place s) (sym prepared);
-  }
-
   stay_step : (s : Shape) (disks : List (List ℕ)) (first : ℕ) → Allocates s disks first a w → Step a b s disks first w w
   stay_step s disks first is = record {
     moves = record {
@@ -158,10 +197,8 @@ module _ (a b : Allocator) (w : World) (sound : IsSound w) (file : b.file ≡ a.
     leaves = λ told. record { keeps = record { blocks = λ i q there. there; tables = λ i q there. there }; alike = alike_self s (w.seen a.file) };
     tables = λ told i inside. refl;
     spares = λ told k below none apart x from to. refl;
-    table = λ told i inside. ⊎_elim
-        (λ same. inl (same ∙ ap (λ (x : List ℕ). slice_index x i) (sym blocks)))
-        (λ half. inr (half_stays s i (w.seen a.file) half))
-        (is.table told i inside);
+    counts = λ told k many below was. was;
+    table = λ told. table_same s a b (w.seen a.file) goes.bits blocks prepared (is.table told);
   }
 
   pub grows_stay : Grows a b w w
@@ -188,6 +225,8 @@ pub record Counts (f last n on finish spot : ℕ) (counts : List ℕ) (old new :
       → IsStanding s disks first last f old → IsTrue old.tells → LeavesGuest s (old.seen f) (new.seen f)
   pub rows : (s : Shape) (disks : List (List ℕ)) (first q i low : ℕ) → IsToppingUp s last q i low n spot finish f counts old
       → IsStanding s disks first last f old → IsTrue old.tells → SameTables s (old.seen f) (new.seen f) × SameBlocks s (old.seen f) (new.seen f)
+  pub others : (s : Shape) (disks : List (List ℕ)) (first q i low : ℕ) → IsToppingUp s last q i low n spot finish f counts old
+      → IsStanding s disks first last f old → IsTrue old.tells → LeavesCounts s last n (old.seen f) (new.seen f)
   pub frame : IsTrue old.tells → SameBeside (λ b. IsWithin b finish 1 ⊎ IsWithin b spot (length counts)) (old.seen f) (new.seen f)
 
 -- a cluster below one that is written ends before it
@@ -220,11 +259,8 @@ module _ {parts : Parts} (a : Allocator) (is_a : IsAllocator a) (n on finish spo
   word_is : (s : Shape) → IsOf s a → block_at a.pool index ≡ place s q
   word_is s of = block.3 ∙ place_is s a.pool.bits q of.cluster
 
-  each_more : 0 < pools.each a.pool
-  each_more = omega (arith, within, some)
-
   inside_is : (s : Shape) → IsOf s a → index < s.blocks
-  inside_is s of = omega (arith, div_below last (pools.each a.pool) (length a.pool.blocks) each_more (omega (arith, below, some)), of.blocks)
+  inside_is s of = omega (arith, block_inside a.pool is_a.pool last (omega (arith, below, some)), of.blocks)
 
   words : (s : Shape) (c : List ℕ) → HasTable s a c → (i : ℕ) → i < s.blocks → u64_at c (s.counts + 8 * i) ≡ block_at a.pool i
   words s c table i inside = ⊎_elim (λ same. same) (λ half. absurd (linked (ap (block_at a.pool) (sym half.counts) ∙ half.missing))) (table i inside)
@@ -275,6 +311,11 @@ module _ {parts : Parts} (a : Allocator) (is_a : IsAllocator a) (n on finish spo
       )))
       (place_apart s k q (λ same. apart index (inside_is s is.is) linked (word_is s is.is ∙ ap (place s) (sym same))))))
 
+  count_words : (b : Allocator) → b.pool.blocks ≡ a.pool.blocks → (s : Shape) (disks : List (List ℕ)) (first : ℕ) → Allocates s disks first a old → IsTrue old.tells → HasBlocks s b (new.seen a.file)
+  count_words b blocks s disks first is told i inside =
+      (call.rows s disks first q index slot (topping s disks first is) is.stands told).1 i inside ∙ words s (old.seen a.file) (is.table told) i inside
+      ∙ ap (λ (x : List ℕ). slice_index x i) (sym blocks)
+
   count_step : (b : Allocator) → b.pool.prepared ≡ on → b.pool.blocks ≡ a.pool.blocks → (s : Shape) (disks : List (List ℕ)) (first : ℕ)
       → Allocates s disks first a old → Step a b s disks first old new
   count_step b prepared blocks s disks first is = record {
@@ -283,14 +324,14 @@ module _ {parts : Parts} (a : Allocator) (is_a : IsAllocator a) (n on finish spo
     leaves = λ told. call.leaves s disks first q index slot (topping s disks first is) is.stands told;
     tables = λ told. (call.rows s disks first q index slot (topping s disks first is) is.stands told).0;
     spares = count_spares s disks first is;
-    table = λ told i inside. inl ((call.rows s disks first q index slot (topping s disks first is) is.stands told).1 i inside
-        ∙ words s (old.seen a.file) (is.table told) i inside
-        ∙ ap (λ (x : List ℕ). slice_index x i) (sym blocks));
+    counts = λ told k many below was. call.others s disks first q index slot (topping s disks first is) is.stands told k many was (inl below);
+    table = λ told i inside. inl (count_words b blocks s disks first is told i inside);
   }
 
-  pub counted_grows : (b : Allocator) → b.file ≡ a.file → b.table ≡ a.table → b.pool ≡ record a.pool { prepared = on } → Grows a b old new
-  counted_grows b file table pool = grows_by a b old new run file table follows (count_step b (ap (λ (p : Pool). p.prepared) pool) (ap
-      (λ (p : Pool). p.blocks) pool))
+  pub counted_grows : (b : Allocator) → b.file ≡ a.file → b.table ≡ a.table → b.pool ≡ record a.pool { prepared = on } → Grows a b old new × NamesBlocks a b old new
+  counted_grows b file table pool =
+      let blocks = ap (λ (p : Pool). p.blocks) pool in
+      (grows_by a b old new run file table follows (count_step b (ap (λ (p : Pool). p.prepared) pool) blocks), record { words = count_words b blocks })
     where
       follows : Follows a.pool b.pool
       follows = record {
@@ -312,6 +353,8 @@ pub record Adds (f last on finish end spot at word : ℕ) (old new : World) : Ty
       → IsStanding s disks first last f old → IsTrue old.tells → LeavesGuest s (old.seen f) (new.seen f)
   pub rows : (s : Shape) (disks : List (List ℕ)) (first i slot : ℕ) → IsAddingBlock s i last slot spot finish end at word f old
       → IsStanding s disks first last f old → IsTrue old.tells → SameTables s (old.seen f) (new.seen f) × SameBlocksBut s i (old.seen f) (new.seen f)
+  pub others : (s : Shape) (disks : List (List ℕ)) (first i slot : ℕ) → IsAddingBlock s i last slot spot finish end at word f old
+      → IsStanding s disks first last f old → IsTrue old.tells → LeavesCounts s (each s * i) (each s) (old.seen f) (new.seen f)
   pub frame : IsTrue old.tells → SameBeside (λ b. IsWithin b finish 1 ⊎ (IsWithin b spot 2 ⊎ IsWithin b at 8)) (old.seen f) (new.seen f)
 
 -- whatever it answers, the table's word is as it was, or names the block
@@ -339,11 +382,8 @@ module _ {parts : Parts} (a : Allocator) (is_a : IsAllocator a) (on finish end s
   abbrev slot0 : ℕ
   slot0 = last_b % pools.each a.pool
 
-  each_here : 0 < pools.each a.pool
-  each_here = each_some a.pool is_a.pool
-
   inside_here : (s : Shape) → IsOf s a → i0 < s.blocks
-  inside_here s of = omega (arith, div_below last_b (pools.each a.pool) (length a.pool.blocks) each_here (omega (arith, below)), of.blocks)
+  inside_here s of = omega (arith, block_inside a.pool is_a.pool last_b below, of.blocks)
 
   at_here : (s : Shape) → IsOf s a → at ≡ s.counts + 8 * i0
   at_here s of = omega (arith, at_is, of.table)
@@ -358,7 +398,7 @@ module _ {parts : Parts} (a : Allocator) (is_a : IsAllocator a) (on finish end s
         shape = is.is.shape;
         call = record {
           is = omega (arith, div-add-mod last_b (pools.each a.pool), ap (λ (x : ℕ). x * i0) same);
-          slot_in = let part : slot0 < pools.each a.pool = mod-lt last_b each_here in omega (arith, part, same);
+          slot_in = let part : slot0 < pools.each a.pool = mod-lt last_b (each_some a.pool.bits is_a.pool.low) in omega (arith, part, same);
           some = is_a.some;
           inside = inside_here s is.is;
           reach = omega (arith, below, reach_is s a is.is);
@@ -384,6 +424,50 @@ module _ {parts : Parts} (a : Allocator) (is_a : IsAllocator a) (on finish end s
       (λ (count : IsWithin x spot 2). absurd (omega (arith, count.0, before s k last_b x below_k to, (adding s disks first is).call.spot_is)))
       (λ (link : IsWithin x at 8). none (omega (arith, link.0, to, at_here s is.is), omega (arith, link.1, from, at_here s is.is, inside_here s is.is)))))
 
+  -- the refcount table doesn't meet the next cluster
+  table_apart : (s : Shape) (disks : List (List ℕ)) (first : ℕ) → IsStanding s disks first last_b a.file old → IsTrue old.tells → Meets s last_b s.counts (8 * s.blocks) → ⊥
+  table_apart s disks first stands told meets =
+      let st = stands told in
+      let is : st.role last_b ≡ Of clusters.Counts = st.seen.lies.refs clusters.Counts last_b meets in
+      ⊎_elim (λ (fresh : st.role last_b ≡ Fresh). cc) (λ (own : IsOwn s st.role last_b). let block = own.2 in cc) st.edge
+
+  -- the counts in a block that was half added
+  half_counts : (s : Shape) (disks : List (List ℕ)) (first : ℕ) (is : Allocates s disks first a old) → IsTrue old.tells → (k many : ℕ) → k < last_b → (c : IsCounted s (old.seen a.file) k many)
+      → c.index ≡ i0 → IsCounted s (new.seen a.file) k many
+  half_counts s disks first is told k many below c same =
+      let call_is = (adding s disks first is).call in
+      let word : u64_at (old.seen a.file) (s.counts + 8 * i0) ≡ place s c.block = ap (λ (i : ℕ). u64_at (old.seen a.file) (s.counts + 8 * i)) (sym same) ∙ c.linked.at in
+      let block : c.block ≡ last_b = ⊎_elim
+      (λ (was : u64_at (old.seen a.file) (s.counts + 8 * i0) ≡ block_at a.pool i0). absurd (omega (arith, was, missing, word, place_some s c.block is.is.shape.some c.linked.some)))
+      (λ (half : IsHalfAdded s a i0 (old.seen a.file)). place_same s c.block last_b is.is.shape.some (sym word ∙ half.word)) (is.table told i0 (inside_here s is.is)) in
+      let at_block : place s c.block ≡ place s last_b = ap (place s) block in
+      let slot : c.slot < slot0 = omega (arith, c.is, call_is.is, ap (λ (i : ℕ). each s * i) same, below) in
+      let inside = inside_here s is.is in
+      let apart : (x : ℕ) → place s last_b ≤ x → x < place s last_b + size s → IsWithin x at 8 → ⊥ =
+      λ x low high link. table_apart s disks first is.stands told (omega (arith, link.0, high, at_here s is.is), omega (arith, link.1, low, at_here s is.is, inside)) in
+      record {
+        index = c.index;
+        slot = c.slot;
+        block = c.block;
+        is = c.is;
+        inside = c.inside;
+        linked = (call.leaves s disks first i0 slot0 (adding s disks first is) is.stands told).keeps.blocks c.index c.block c.linked;
+        count = number_same w16 (new.seen a.file) (old.seen a.file) (place s c.block + 2 * c.slot) (λ x low high. call.frame told x (⊎_elim
+            (λ (tail : IsWithin x finish 1). absurd (omega (arith, tail.0, high, at_block, slot, call_is.slot_in, call_is.finish_is, place_next s last_b)))
+            (⊎_elim
+            (λ (count : IsWithin x spot 2). absurd (omega (arith, count.0, high, at_block, slot, call_is.spot_is)))
+            (λ (link : IsWithin x at 8). apart x (omega (arith, low, at_block)) (omega (arith, high, at_block, slot, call_is.slot_in)) link))))
+            ∙ c.count;
+      }
+
+  add_counts : (s : Shape) (disks : List (List ℕ)) (first : ℕ) → Allocates s disks first a old → IsTrue old.tells → KeepsCounts s a (old.seen a.file) (new.seen a.file)
+  add_counts s disks first is told k many below c = elim (cases_lt k (each s * i0)) [
+    | inl before ↦ call.others s disks first i0 slot0 (adding s disks first is) is.stands told k many c (inl before)
+    | inr not ↦ half_counts s disks first is told k many below c
+        (same_index s c.index i0 c.slot (k - each s * i0) (sym c.is ∙ omega (arith, not)) c.inside
+        (let call_is = (adding s disks first is).call in omega (arith, not, below, call_is.is, call_is.slot_in)))
+  ]
+
   add_step : (b : Allocator) → b.pool.prepared ≡ on → ((s : Shape) (disks : List (List ℕ)) (first : ℕ) → Allocates s disks first a old → IsTrue old.tells
       → HasTable s b (new.seen a.file))
       → (s : Shape) (disks : List (List ℕ)) (first : ℕ) → Allocates s disks first a old → Step a b s disks first old new
@@ -393,6 +477,7 @@ module _ {parts : Parts} (a : Allocator) (is_a : IsAllocator a) (on finish end s
     leaves = λ told. call.leaves s disks first i0 slot0 (adding s disks first is) is.stands told;
     tables = λ told. (call.rows s disks first i0 slot0 (adding s disks first is) is.stands told).0;
     spares = add_spares s disks first is;
+    counts = add_counts s disks first is;
     table = table s disks first is;
   }
 
@@ -435,16 +520,19 @@ module _ {parts : Parts} (a : Allocator) (is_a : IsAllocator a) (on finish end s
 
   -- it is linked
   pub added_grows : IsLinking a.file last_b finish end spot at word old new → (b : Allocator) → on ≡ a.pool.prepared + 1 → b.file ≡ a.file → b.table ≡ a.table
-      → HasAddedBlock a.pool b.pool → Raises a.pool b.pool → Grows a b old new
-  added_grows linking b one file table added raises =
-      grows_by a b old new run file table (raises_follows a.pool b.pool raises) (add_step b (ap (λ (p : Pool). p.prepared) added.is ∙ sym one) full_table)
+      → HasAddedBlock a.pool b.pool → Raises a.pool b.pool → Grows a b old new × NamesBlocks a b old new
+  added_grows linking b one file table added raises = (
+    grows_by a b old new run file table (raises_follows a.pool b.pool raises) (add_step b (ap (λ (p : Pool). p.prepared) added.is ∙ sym one) (λ s disks first is told i inside.
+        inl (full_words s disks first is told i inside))),
+    record { words = full_words },
+  )
     where
-      full_table : (s : Shape) (disks : List (List ℕ)) (first : ℕ) → Allocates s disks first a old → IsTrue old.tells → HasTable s b (new.seen a.file)
-      full_table s disks first is told m inside = elim (cases_eq m i0) [
-        | inr differ ↦ inl (other_words s disks first is told m inside differ ∙ sym (added.blocks.others m differ))
-        | inl same ↦ inl (ap (λ (x : ℕ). u64_at (new.seen a.file) (s.counts + 8 * x)) same
+      full_words : (s : Shape) (disks : List (List ℕ)) (first : ℕ) → Allocates s disks first a old → IsTrue old.tells → HasBlocks s b (new.seen a.file)
+      full_words s disks first is told m inside = elim (cases_eq m i0) [
+        | inr differ ↦ other_words s disks first is told m inside differ ∙ sym (added.blocks.others m differ)
+        | inl same ↦ ap (λ (x : ℕ). u64_at (new.seen a.file) (s.counts + 8 * x)) same
             ∙ (linking s disks first i0 slot0 (adding s disks first is) is.stands told).at
-            ∙ sym (place_is s a.pool.bits last_b is.is.cluster) ∙ sym added.blocks.there ∙ ap (block_at b.pool) (sym same))
+            ∙ sym (place_is s a.pool.bits last_b is.is.cluster) ∙ sym added.blocks.there ∙ ap (block_at b.pool) (sym same)
       ]
 
 -- ---- a run is taken

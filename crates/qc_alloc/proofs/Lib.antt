@@ -15,3 +15,5 @@ pub mod Reading
 pub mod Refcounts
 pub mod Opened
 pub mod Pooled
+pub mod Exact
+pub mod Runs

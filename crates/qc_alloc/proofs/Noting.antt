@@ -1,35 +1,12 @@
 -- Which clusters were found counted.
-use Rattle.std.proofs.Common.{◌≡◌, ◌≢◌, ℕ, ◌+◌, ◌*◌, ◌<◌, ◌≤◌, List, length, replicate, slice_index, Bool, true, false, not, ◌||◌, inl, inr, refl, sym, ap, subst, ◌∙◌, arith}
+use Rattle.std.proofs.Common.{◌≡◌, ◌≢◌, ℕ, ◌+◌, ◌*◌, ◌<◌, ◌≤◌, List, length, replicate, slice_index, Bool, true, false, not, inl, inr, refl, sym, ap, subst, ◌∙◌, arith}
 use Rattle.std.specs.Prelude.{◌==◌}
 use Rattle.std.proofs.lemmas.Grind.{common_steps}
-use Rattle.std.proofs.lemmas.List.{get_or_past}
-use Rattle.std.proofs.lemmas.Bool.{eq-eqb, ne_eqb, cases_lt, cases_eq}
+use Rattle.std.proofs.lemmas.Bool.{eq-eqb, ne_eqb, cases_eq}
 use Rattle.bitmap_model.specs.Granules.{is_in}
-use Rattle.bitmap_model.proofs.Sets.{is_in-set_of, length-set_of}
 use Rattle.cluster_pool.specs.Sets.{with_member}
+use Rattle.cluster_pool.proofs.Words.{length-with, is_in-with, is_in-with_other}
 use Rattle.qc_alloc.specs.Tables.{Notes}
-
--- ---- one member more
-
-pub length-with : (set : List Bool) (k : ℕ) → length (with_member set k) ≡ length set
-unfolding with_member
-length-with set k = length-set_of (length set) (λ j. (j == k) || is_in set j)
-
-pub in_with : (set : List Bool) (k j : ℕ) → j < length set → is_in (with_member set k) j ≡ ((j == k) || is_in set j)
-unfolding with_member
-in_with set k j below = is_in-set_of (length set) (λ i. (i == k) || is_in set i) j below
-
-pub in_past : (set : List Bool) (j : ℕ) → length set ≤ j → is_in set j ≡ false
-in_past set j past = get_or_past set j false past
-
-pub in_other : (set : List Bool) (k j : ℕ) → j ≢ k → is_in (with_member set k) j ≡ is_in set j
-in_other set k j other = elim (cases_lt j (length set)) [
-  | inl below ↦ in_with set k j below ∙ ap (λ (b : Bool). b || is_in set j) (ne_eqb j k other)
-  | inr past ↦ in_past (with_member set k) j (let e = length-with set k in omega arith) ∙ sym (in_past set j past)
-]
-
-pub in_same : (set : List Bool) (k : ℕ) → k < length set → is_in (with_member set k) k ≡ true
-in_same set k below = in_with set k k below ∙ ap (λ (b : Bool). b || is_in set k) (eq-eqb k k refl)
 
 -- ---- one cluster more
 
@@ -66,10 +43,10 @@ note_in counts k set past some near had = record {
   inside = λ j below short. elim (cases_eq j k) [
     | inl e ↦
         let P : ℕ → Type 0 = λ i. is_in (with_member set k) i ≡ not (counts i == 0) in
-        subst P (sym e) (in_same set k near ∙ sym (not_zero (counts k) some))
-    | inr other ↦ in_other set k j other ∙ had.inside j (omega arith) (let e = length-with set k in omega arith)
+        subst P (sym e) (is_in-with set k near ∙ sym (not_zero (counts k) some))
+    | inr other ↦ is_in-with_other set k j other ∙ had.inside j (omega arith) (let e = length-with set k in omega arith)
   ];
-  others = λ j high. in_other set k j (λ e. absurd (omega arith)) ∙ had.others j (omega arith);
+  others = λ j high. is_in-with_other set k j (λ e. absurd (omega arith)) ∙ had.others j (omega arith);
   behind = λ j below after. absurd (omega arith);
   last = inr (k, (omega arith), refl, some);
 }

@@ -21,10 +21,11 @@ use Rattle.qc_layout.proofs.NumberLaws.{bits_low}
 use Rattle.cluster_pool.specs.Pool.{Pool, IsPool, room, fresh, block_of, block_at, each, found_pool}
 use Rattle.cluster_pool.specs.Laws.{IsUntouched, FreshIsRoom}
 use Rattle.qc_alloc.specs.Allocator.{Allocator, IsAllocator}
-use Rattle.qc_alloc.specs.Opening.{IsFound, IsRead}
+use Rattle.image_header.specs.Headers.{IsRead}
+use Rattle.qc_alloc.specs.Opening.{IsFound}
 use Rattle.qc_alloc.specs.declared.tables.Layout.{Layout}
-use Rattle.qc_alloc.specs.Tables.{IsLayout, IsLayoutOf, IsReached, IsBlock, AreBlocks, AreWords, HasCounts, blocks_of, reach_by, claimed_after, Stops, Gone, IsFresh, IsTested, IsKept}
-use Rattle.qc_alloc.proofs.Passing.{claimed_after-append, passes_all, stops_all, claimed_any}
+use Rattle.qc_alloc.specs.Tables.{IsLayout, IsLayoutOf, IsReached, IsBlock, AreBlocks, AreWords, HasCounts, blocks_of, reach_by, claimed_after, Passes, Stops, Gone, IsFresh, IsTested, IsKept}
+use Rattle.qc_alloc.proofs.Passing.{claimed_after-append, passes_on, passes_claimed, stops_all, claimed_any}
 use Rattle.qc_alloc.proofs.Sizes.{place_of_small}
 use Rattle.qc_alloc.proofs.Layouts.{IsNumbered, numbered, entries_end, counts_pass, names_block, block_is_word, blocks_of_file}
 
@@ -84,13 +85,13 @@ module _ (p q : Pool) (l : Layout) (layout : IsLayout l) (is : IsPool q) (new : 
       let claims : List Check = count_claims file in
       let after : claimed_after [] (count_checks file) ≡ claimed_after [] claims =
       claimed_after-append [] tests claims ∙ ap (λ (ks : List ℕ). claimed_after ks claims) tested.claims in
-      let first : refused_after file [] (tests ++ claims) ≡ refused_after file [] claims = tested.passes.on claims ∙ ap (λ (ks : List ℕ). refused_after file ks claims) tested.claims in
+      let both : Passes file [] (tests ++ claims) = passes_on file [] tests claims tested.passes (subst (λ (ks : List ℕ). Passes file ks claims) (sym tested.claims) gone.passes) in
       let next : IsNextFree file q.next = subst (IsNextFree file) (sym next_same) tested.next in
       let none : q.ready ≡ [] = kept.ready new.ready in
       let has : room q ≡ room_from file q.next = ap (λ (ks : List ℕ). length ks + fresh q) none ∙ ((let z : 0 + fresh q ≡ fresh q = omega arith in z) ∙ law q file is gone.knows.blocks untouched next) in
       let P : Pool → Type 0 = λ x. IsFound (record a { pool = x }) file in
       let whole : IsFound (record a { pool = q }) file = record {
-        passes = first ∙ passes_all file [] claims gone.passes;
+        passes = λ rest. passes_claimed file (count_checks file) rest both;
         blocks = gone.knows.blocks;
         spoken = λ k near. gone.knows.spoken k near ∙ (ap (λ (ks : List ℕ). list_any (λ other. other == k) ks) (sym after)
             ∙ (claimed_any k [] (count_checks file) ∙ or-false (list_any (λ other. other == k) (claimed_in (count_checks file)))));

@@ -1,13 +1,14 @@
 -- Lists of checks that an opening goes through, one behind another.
 use Rattle.std.proofs.Common.{◌≡◌, ◌≢◌, ℕ, ◌+◌, ◌-◌, ◌<◌, ◌≤◌, suc, zero, List, [], ◌∷◌, ◌++◌, map, Bool, true, false, Option, Some, None, refl, sym, ap, subst, ◌∙◌, arith, max}
-use Rattle.std.specs.Prelude.{◌==◌, ◌||◌, nat_le, flat_map}
+use Rattle.std.specs.Prelude.{◌==◌, ◌||◌, if◌then◌else◌, nat_le, flat_map}
 use Rattle.std.specs.List.{list_any, range_with_len}
 use Rattle.std.proofs.lemmas.Grind.{flat_map-append}
+use Rattle.std.proofs.Math.Bool.{or-false}
 use Rattle.std.proofs.lemmas.List.{append_assoc, append-nil, map-append}
 use Rattle.std.proofs.lemmas.Bool.{lt-leb, le-leb}
-use Rattle.qc_layout.specs.Disks.{bits_of, place_of, reach_of}
+use Rattle.qc_layout.specs.Disks.{bits_of, place_of, reach_of, refcount}
 use Rattle.qc_layout.specs.declared.faults.ImageFault.{ImageFault}
-use Rattle.qc_layout.specs.declared.faults.ImageFault.TheVariants.{PastLimit}
+use Rattle.qc_layout.specs.declared.faults.ImageFault.TheVariants.{PastLimit, Overlap, Uncounted}
 use Rattle.qc_layout.specs.Loading.{claimed_in}
 use Rattle.qc_layout.specs.Opening.{Check, claim_fault, refused_after, each_below}
 use Rattle.qc_layout.specs.Opening.Check.{Refused, Reached, Claim}
@@ -52,9 +53,6 @@ stops_as file claimed xs ys fault e is = let P : List Check → Type 0 = λ cs. 
 -- what a whole list comes to
 pub stops_all : (file claimed : List ℕ) (xs : List Check) (fault : Option ImageFault) → Stops file claimed xs fault → refused_after file claimed xs ≡ fault
 stops_all file claimed xs fault stops = ap (λ (cs : List Check). refused_after file claimed cs) (sym (append-nil xs)) ∙ stops.on []
-
-pub passes_all : (file claimed : List ℕ) (xs : List Check) → Passes file claimed xs → refused_after file claimed xs ≡ None
-passes_all file claimed xs passes = ap (λ (cs : List Check). refused_after file claimed cs) (sym (append-nil xs)) ∙ passes.on []
 
 -- ---- numbers in a row
 
@@ -171,3 +169,24 @@ claimed_in-append [] ys = refl
 claimed_in-append (Refused fault ∷ xs) ys = claimed_in-append xs ys
 claimed_in-append (Reached j ∷ xs) ys = claimed_in-append xs ys
 claimed_in-append (Claim owner j ∷ xs) ys = ap (λ (ks : List ℕ). j ∷ ks) (claimed_in-append xs ys)
+
+claim_same : (file xs ys : List ℕ) (k : ℕ) → list_any (λ other. other == k) xs ≡ list_any (λ other. other == k) ys → claim_fault file xs k ≡ claim_fault file ys k
+claim_same file xs ys k e =
+    ap (λ (b : Bool). if nat_le (reach_of file) k then Some (PastLimit (place_of (bits_of file) k)) else if b then Some (Overlap (place_of (bits_of file) k))
+    else if refcount file k == 0 then Some (Uncounted (place_of (bits_of file) k)) else None) e
+
+abbrev first_or : Option ImageFault → Option ImageFault → Option ImageFault
+first_or first rest = elim first [ Some found ↦ Some found | None ↦ rest ]
+
+-- a list of checks goes by which clusters have been claimed, in whatever order
+same_claims : (file xs ys : List ℕ) (checks : List Check) → ((k : ℕ) → list_any (λ other. other == k) xs ≡ list_any (λ other. other == k) ys) → refused_after file xs checks ≡ refused_after file ys checks
+same_claims file xs ys [] same = refl
+same_claims file xs ys (Refused fault ∷ checks) same = refl
+same_claims file xs ys (Reached k ∷ checks) same = rw (same_claims file xs ys checks same) refl
+same_claims file xs ys (Claim owner k ∷ checks) same =
+    let next = same_claims file (k ∷ xs) (k ∷ ys) checks (λ m. ap (λ (b : Bool). (k == m) || b) (same m)) in
+    ap (λ (f : Option ImageFault). first_or f (refused_after file (k ∷ xs) checks)) (claim_same file xs ys k (same k)) ∙ ap (first_or (claim_fault file ys k)) next
+
+pub passes_claimed : (file : List ℕ) (checks rest : List Check) → Passes file [] checks → refused_after file [] (checks ++ rest) ≡ refused_after file (claimed_in checks) rest
+passes_claimed file checks rest passes =
+    passes.on rest ∙ same_claims file (claimed_after [] checks) (claimed_in checks) rest (λ k. claimed_any k [] checks ∙ or-false (list_any (λ other. other == k) (claimed_in checks)))

@@ -1,28 +1,22 @@
 -- What holds of every pool holds after a claim, a taking and a giving back.
-use Rattle.std.proofs.Common.{◌≡◌, ◌≢◌, ℕ, ◌+◌, ◌*◌, ◌^◌, ◌<◌, ◌≤◌, List, [], ◌∷◌, length, min, slice_index, filter, None, Result, Ok, Err, OnOk, OnErr, Bool, true, false, not, ◌&&◌, inl, inr, refl, sym, ap, subst, ◌∙◌, arith}
+use Rattle.std.proofs.Common.{◌≡◌, ◌≢◌, ℕ, ◌+◌, ◌*◌, ◌^◌, ◌<◌, ◌≤◌, List, [], ◌∷◌, length, min, slice_index, filter, None, Result, Ok, Err, OnOk, OnErr, Bool, true, false, not, inl, inr, refl, sym, ap, subst, ◌∙◌, arith}
 use Rattle.std.specs.Prelude.{◌==◌}
 use Rattle.std.specs.List.{All}
-use Rattle.std.proofs.lemmas.Bool.{eq-eqb, cases_Bool, cases_lt}
+use Rattle.std.proofs.lemmas.Bool.{eq-eqb, cases_Bool, cases_eq}
 use Rattle.std.proofs.lemmas.List.Elements.{All-filter, All-nil, All-cons, All-head, All-tail}
 use Rattle.bitmap_model.specs.Granules.{is_in}
-use Rattle.bitmap_model.proofs.Sets.{is_in-set_of, length-set_of}
 use Rattle.cluster_pool.specs.Sets.{with_member, without_member}
 use Rattle.qc_layout.specs.Disks.{place_of, counts_in}
 use Rattle.qc_alloc.specs.declared.clusters.Clusters.TheInside.{Inside}
 use Rattle.qc_alloc.specs.declared.refusals.ClusterRefusal.{ClusterRefusal}
+use Rattle.qc_alloc.specs.Allocator.{Allocator, HandsOut}
 use Rattle.qc_alloc.specs.Inside.{IsInside}
 use Rattle.cluster_pool.specs.Pool.{Pool, claim_refusal, IsPool, IsReady, AreRising, claimed, given_back, HasTaken}
-use Rattle.qc_alloc.proofs.Noting.{length-with, in_other, in_past}
+use Rattle.cluster_pool.proofs.Keeping.{rising_filter, filter_short}
+use Rattle.cluster_pool.proofs.Words.{length-with, length-without, is_in-with_other, is_in-without, is_in-without_other}
 use Rattle.qc_alloc.proofs.Claiming.{claimed_below}
 
 -- ---- some of a list
-
-rising_filter : (t : ℕ → Bool) (xs : List ℕ) → AreRising xs → AreRising (filter t xs)
-rising_filter t [] are = tt
-rising_filter t (x ∷ xs) are = elim (cases_Bool (t x)) [
-  | inl kept ↦ rw kept (All-filter t (λ m. x < m) xs are.0, rising_filter t xs are.1)
-  | inr gone ↦ rw gone (rising_filter t xs are.1)
-]
 
 all_kept : (P Q : ℕ → Type 0) (t : ℕ → Bool) → ((m : ℕ) → P m → t m ≡ true → Q m) → (xs : List ℕ) → All P xs → All Q (filter t xs)
 all_kept P Q t so [] are = All-nil Q
@@ -31,25 +25,12 @@ all_kept P Q t so (x ∷ xs) are = elim (cases_Bool (t x)) [
   | inr gone ↦ rw gone (all_kept P Q t so xs (All-tail P x xs are))
 ]
 
-fewer : (t : ℕ → Bool) (xs : List ℕ) → length (filter t xs) ≤ length xs
-fewer t [] = omega arith
-fewer t (x ∷ xs) = let rest = fewer t xs in elim (cases_Bool (t x)) [ inl kept ↦ rw kept (omega (arith, rest)) | inr gone ↦ rw gone (omega (arith, rest)) ]
-
 -- ---- one member less
 
-length-without : (set : List Bool) (k : ℕ) → length (without_member set k) ≡ length set
-unfolding without_member
-length-without set k = length-set_of (length set) (λ j. not (j == k) && is_in set j)
-
-and_false : (a b : Bool) → b ≡ false → (a && b) ≡ false
-and_false true b e = e
-and_false false b e = refl
-
 still_out : (set : List Bool) (k j : ℕ) → is_in set j ≡ false → is_in (without_member set k) j ≡ false
-unfolding without_member
-still_out set k j out = elim (cases_lt j (length set)) [
-  | inl below ↦ is_in-set_of (length set) (λ i. not (i == k) && is_in set i) j below ∙ and_false (not (j == k)) (is_in set j) out
-  | inr past ↦ in_past (without_member set k) j (let e = length-without set k in omega arith)
+still_out set k j out = elim (cases_eq j k) [
+  | inl same ↦ ap (is_in (without_member set k)) same ∙ is_in-without set k
+  | inr other ↦ is_in-without_other set k j other ∙ out
 ]
 
 -- ---- pools
@@ -67,9 +48,9 @@ pool_claimed p k is = record {
   found = is.found;
   linked = is.linked;
   ready = all_kept (IsReady p) (IsReady (claimed p k)) (λ m. not (m == k))
-      (λ m r t. record { below = r.below; reach = r.reach; unspoken = in_other p.spoken k m (other_than m k t) ∙ r.unspoken; linked = r.linked; differs = r.differs }) p.ready is.ready;
+      (λ m r t. record { below = r.below; reach = r.reach; unspoken = is_in-with_other p.spoken k m (other_than m k t) ∙ r.unspoken; linked = r.linked; differs = r.differs }) p.ready is.ready;
   rising = rising_filter (λ m. not (m == k)) p.ready is.rising;
-  at_once = let less = fewer (λ m. not (m == k)) p.ready in let most = is.at_once in omega (arith, less, most);
+  at_once = let less = filter_short (λ m. not (m == k)) p.ready in let most = is.at_once in omega (arith, less, most);
 }
 
 pub pool_given : (p : Pool) (k : ℕ) → IsPool p → IsPool (given_back p k)
@@ -106,11 +87,24 @@ pool_taken p q k is taken =
       ready = λ j d below.
           let r = All-tail (IsReady p) k rest ready j d below in
           let up = rising.0 j d below in
-          record { below = r.below; reach = r.reach; unspoken = in_other p.spoken k _ (λ e. absurd (omega (arith, up, e))) ∙ r.unspoken; linked = r.linked; differs = r.differs };
+          record { below = r.below; reach = r.reach; unspoken = is_in-with_other p.spoken k _ (λ e. absurd (omega (arith, up, e))) ∙ r.unspoken; linked = r.linked; differs = r.differs };
       rising = rising.1;
       at_once = omega (arith, most, count);
     } in
     subst Q (sym taken.is) whole
+
+-- ---- what is handed out next
+
+pub hands_claimed : {T : Type 0} (first k : ℕ) (a b : Allocator) (result : Result T ClusterRefusal) → OnOk result ((claim_refusal a.pool k ≡ None) × (b.pool ≡ claimed a.pool k)) → OnErr result (b.pool ≡ a.pool)
+    → HandsOut first a → HandsOut first b
+hands_claimed first k a b (Ok value) done kept is = record {
+  ready = subst (λ (p : Pool). All (λ m. first ≤ m) p.ready) (sym done.1) (All-filter (λ m. not (m == k)) (λ m. first ≤ m) a.pool.ready is.ready);
+  fresh = omega (arith, is.fresh, ap (λ (p : Pool). p.next) done.1);
+}
+hands_claimed first k a b (Err why) done kept is = record {
+  ready = subst (λ (p : Pool). All (λ m. first ≤ m) p.ready) (sym kept) is.ready;
+  fresh = omega (arith, is.fresh, ap (λ (p : Pool). p.next) kept);
+}
 
 -- a cluster that is taken is a prepared one
 taken_unspoken : (p q : Pool) (k : ℕ) → IsPool p → HasTaken p q k → ((j : ℕ) → p.prepared ≤ j → is_in p.spoken j ≡ false) → (j : ℕ) → p.prepared ≤ j → is_in q.spoken j ≡ false
@@ -119,7 +113,7 @@ taken_unspoken p q k is taken unspoken j high =
     let ready : All (IsReady p) (k ∷ taken.rest) = subst P taken.first is.ready in
     let below = (All-head (IsReady p) k taken.rest ready).below in
     let order = is.order in
-    ap (λ (x : Pool). is_in x.spoken j) taken.is ∙ (in_other p.spoken k j (λ e. absurd (omega (arith, below, order, high, e))) ∙ unspoken j high)
+    ap (λ (x : Pool). is_in x.spoken j) taken.is ∙ (is_in-with_other p.spoken k j (λ e. absurd (omega (arith, below, order, high, e))) ∙ unspoken j high)
 
 -- ---- allocators
 
@@ -156,7 +150,7 @@ pub inside_claimed : {T : Type 0} (c : Inside) (q : Pool) (k : ℕ) (result : Re
 inside_claimed c q k (Ok value) is done kept =
     let P : Pool → Type 0 = λ x. IsInside (record c { pool = x }) in
     subst P (sym done.1) (inside_on c (claimed c.pool k) is (pool_claimed c.pool k is.allocator.pool) refl refl refl
-    (let below = claimed_below c.pool k is.allocator.pool done.0 in λ j high. in_other c.pool.spoken k j (λ e. absurd (omega (arith, below, high, e))) ∙ is.allocator.unspoken j high))
+    (let below = claimed_below c.pool k is.allocator.pool done.0 in λ j high. is_in-with_other c.pool.spoken k j (λ e. absurd (omega (arith, below, high, e))) ∙ is.allocator.unspoken j high))
 inside_claimed c q k (Err why) is done kept =
     let P : Pool → Type 0 = λ x. IsInside (record c { pool = x }) in
     subst P (sym kept) is

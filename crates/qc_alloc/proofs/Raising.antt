@@ -2,22 +2,18 @@
 use Rattle.std.proofs.Common.{◌≡◌, ◌≢◌, inl, inr, ℕ, ◌+◌, ◌-◌, ◌*◌, ◌/◌, ◌%◌, ◌^◌, ◌<◌, ◌≤◌, max, List, [], ◌∷◌, ◌++◌, length, All, Bool, true, false, not}
 use Rattle.std.proofs.Common.{◌&&◌, ◌||◌, ◌==◌, cond, refl, sym, ◌∙◌, ap, subst, append_assoc, append-nil, eq-eqb, arith}
 use Rattle.std.proofs.lemmas.Bool.{cases_eq, cases_lt, ne_eqb}
-use Rattle.std.proofs.lemmas.Nat.{div-mul-add, pow_pos}
-use Rattle.std.proofs.Math.Nat.{div-add-mod, mod-lt, mul-le-mul_left, pow-le-pow_right}
-use Rattle.std.proofs.lemmas.List.{get_or_past}
+use Rattle.std.proofs.lemmas.Nat.{pow_pos}
+use Rattle.std.proofs.Math.Nat.{div-add-mod, mod-lt, mul-le-mul_left}
 use Rattle.std.proofs.lemmas.List.Elements.{All-append, All-weaker, All-nil, All-cons}
 use Rattle.std.specs.List.{count_by, range_with_len}
-use Rattle.bitmap_model.specs.Granules.{is_in, set_of}
-use Rattle.bitmap_model.proofs.Sets.{is_in-set_of, length-set_of}
+use Rattle.bitmap_model.specs.Granules.{is_in}
 use Rattle.qc_layout.specs.Disks.{place_of, counts_in}
 use Rattle.cluster_pool.specs.Pool.{Pool, IsPool, IsReady, AreRising, each, reach, block_at, block_of, is_own_block, becomes_block, is_open, fresh, room}
 use Rattle.cluster_pool.specs.Pool.{prepared_on, HasAddedBlock, stepped}
 use Rattle.cluster_pool.specs.Sets.{with_member}
+use Rattle.cluster_pool.proofs.Sizes.{each_some, place_of_same, counted_by}
+use Rattle.cluster_pool.proofs.Words.{length-with, is_in-with_member}
 use Rattle.qc_alloc.specs.Growing.{Raises}
-
--- the block that counts a cluster, by its range
-pub div_in : (n i k : ℕ) → i * n ≤ k → k < i * n + n → k / n ≡ i
-div_in n i k low high = ap (λ (x : ℕ). x / n) (omega arith) ∙ div-mul-add i n (k - i * n) (omega arith)
 
 spoken_same : (s o : Bool) → s ≡ (s || (o && not o))
 spoken_same s o = grind arith
@@ -50,15 +46,15 @@ raises_none p = record {
   room = refl;
 }
 
+pub same_reach : (p q : Pool) → Raises p q → reach q ≡ reach p
+same_reach p q raises = let each_same : each q ≡ each p = ap counts_in raises.bits in cc (each_same, raises.count)
+
 module _ (p q r : Pool) (a : Raises p q) (b : Raises q r) where
   each_q : each q ≡ each p
   each_q = ap counts_in a.bits
 
   each_r : each r ≡ each q
   each_r = ap counts_in b.bits
-
-  reach_q : reach q ≡ reach p
-  reach_q = cc (each_q, a.count)
 
   still : (i : ℕ) → block_at p i ≢ 0 → block_at q i ≢ 0
   still i some none = some (sym (a.kept i some) ∙ none)
@@ -71,7 +67,7 @@ module _ (p q r : Pool) (a : Raises p q) (b : Raises q r) where
   missing i none low = elim (cases_lt (max p.prepared (i * each p)) q.prepared) [
     | inr not ↦ omega (arith, not)
     | inl less ↦ (let k = max p.prepared (i * each p) in
-        let is : k / each q ≡ i = div_in (each q) i k (omega (arith, ap (λ (x : ℕ). i * x) each_q)) (omega (arith, less, low)) in
+        let is : k / each q ≡ i = counted_by k (each q) i (omega (arith, ap (λ (x : ℕ). i * x) each_q)) (omega (arith, less, low)) in
         absurd (a.linked k (omega arith) less (ap (block_at q) is ∙ none)))
   ]
 
@@ -102,7 +98,7 @@ module _ (p q r : Pool) (a : Raises p q) (b : Raises q r) where
         (λ k low. omega (arith, low, a.next)) b.more b.fresh);
     next = omega (arith, a.next, b.next);
     prepared = omega (arith, a.prepared, b.prepared);
-    below = omega (arith, a.below, b.below, reach_q);
+    below = omega (arith, a.below, b.below, same_reach p q a);
     count = b.count ∙ a.count;
     kept = λ i some. b.kept i (still i some) ∙ a.kept i some;
     added = λ i none some. elim (cases_eq (block_at q i) 0) [
@@ -137,34 +133,9 @@ module _ (p q r : Pool) (a : Raises p q) (b : Raises q r) where
 
 -- ---- places and sets
 
-pub each_some : (p : Pool) → IsPool p → 0 < each p
-unfolding counts_in
-each_some p is = let more : 2 ^ 1 ≤ 2 ^ p.bits = pow-le-pow_right {n = 2} (omega arith) {i = 1} {j = p.bits} (omega (arith, is.low)) in omega (arith, more)
-
 pub place_of_some : (bits k : ℕ) → 0 < k → 0 < place_of bits k
 unfolding place_of
 place_of_some bits k some = let more : 2 ^ bits * 1 ≤ 2 ^ bits * k = mul-le-mul_left (2 ^ bits) (omega arith) in omega (arith, more, pow_pos bits)
-
-place_of_less : (bits j k : ℕ) → j < k → place_of bits j < place_of bits k
-unfolding place_of
-place_of_less bits j k less = let more : 2 ^ bits * (j + 1) ≤ 2 ^ bits * k = mul-le-mul_left (2 ^ bits) (omega arith) in omega (arith, more, pow_pos bits)
-
-pub place_of_same : (bits j k : ℕ) → place_of bits j ≡ place_of bits k → j ≡ k
-place_of_same bits j k same = elim (cases_lt j k) [
-  | inl less ↦ absurd (omega (arith, place_of_less bits j k less, same))
-  | inr not ↦ elim (cases_lt k j) [ inl more ↦ absurd (omega (arith, place_of_less bits k j more, same)) | inr nor ↦ omega (arith, not, nor) ]
-]
-
-pub is_in-with_member : (set : List Bool) (k j : ℕ) → k < length set → is_in (with_member set k) j ≡ ((j == k) || is_in set j)
-unfolding with_member
-is_in-with_member set k j inside = elim (cases_lt j (length set)) [
-  | inl below ↦ is_in-set_of (length set) (λ m. (m == k) || is_in set m) j below
-  | inr past ↦ (let long = length-set_of (length set) (λ m. (m == k) || is_in set m) in
-      let new : is_in (set_of (length set) (λ m. (m == k) || is_in set m)) j ≡ false = get_or_past _ j false (omega (arith, long, past)) in
-      let old : is_in set j ≡ false = get_or_past set j false past in
-      let other : (j == k) ≡ false = ne_eqb j k (λ same. absurd (omega (arith, same, past, inside))) in
-      grind (arith, new, old, other))
-]
 
 -- ---- more clusters are prepared
 
@@ -172,7 +143,7 @@ is_in-with_member set k j inside = elim (cases_lt j (length set)) [
 pub same_block : (p : Pool) (n k : ℕ) → p.prepared % each p + n ≤ each p → p.prepared ≤ k → k < p.prepared + n → k / each p ≡ p.prepared / each p
 same_block p n k within low high =
     let whole = div-add-mod p.prepared (each p) in
-    div_in (each p) (p.prepared / each p) k (omega (arith, whole, low)) (omega (arith, whole, high, within))
+    counted_by k (each p) (p.prepared / each p) (omega (arith, whole, low)) (omega (arith, whole, high, within))
 
 raises_prepared_on : (p : Pool) (n : ℕ) → block_of p p.prepared ≢ 0 → p.prepared % each p + n ≤ each p → p.prepared + n ≤ reach p
     → fresh (prepared_on p n) ≡ fresh p → Raises p (prepared_on p n)
@@ -255,7 +226,7 @@ module _ (p q : Pool) (is : IsPool p) (some : 0 < p.prepared) (missing : block_o
   whole_0 = omega (arith, div-add-mod p.prepared (each p))
 
   part_0 : p.prepared % each p < each p
-  part_0 = mod-lt p.prepared (each_some p is)
+  part_0 = mod-lt p.prepared (each_some p.bits is.low)
 
   index_q : (k : ℕ) → k / each q ≡ k / each p
   index_q k = ap (λ (x : ℕ). k / x) each_added
@@ -273,7 +244,7 @@ module _ (p q : Pool) (is : IsPool p) (some : 0 < p.prepared) (missing : block_o
   first_0 : max p.next (i0 * each p) ≡ p.prepared
   first_0 = elim (cases_lt (max p.next (i0 * each p)) p.prepared) [
     | inl less ↦ (let m = max p.next (i0 * each p) in
-        let index : m / each p ≡ i0 = div_in (each p) i0 m (omega arith) (omega (arith, less, whole_0, part_0)) in
+        let index : m / each p ≡ i0 = counted_by m (each p) i0 (omega arith) (omega (arith, less, whole_0, part_0)) in
         absurd (is.linked m (omega arith) less (none_here m index)))
     | inr not ↦ omega (arith, not, is.order, whole_0)
   ]
@@ -378,8 +349,7 @@ module _ (p q : Pool) (is : IsPool p) (some : 0 < p.prepared) (missing : block_o
   reach_added = cc (each_added, added.blocks.same_length)
 
   spoken_long : length q.spoken ≡ length p.spoken
-  unfolding with_member
-  spoken_long = ap (λ (x : List Bool). length x) spoken_q ∙ length-set_of (length p.spoken) (λ j. (j == p.prepared) || is_in p.spoken j)
+  spoken_long = ap (λ (x : List Bool). length x) spoken_q ∙ length-with p.spoken p.prepared
 
   ready_on : (k : ℕ) → IsReady p k → IsReady q k
   ready_on k r =
@@ -452,10 +422,10 @@ raises_stepped p is less same = record {
   opens = λ k low. ap (λ (x : Bool). not (is_in p.spoken k) && (not (is_own_block p k) && not x)) (becomes_step (block_of p k) k p.next (k / each p * each p)
       (λ none.
       let whole = div-add-mod k (each p) in
-      let part : k % each p < each p = mod-lt k (each_some p is) in
+      let part : k % each p < each p = mod-lt k (each_some p.bits is.low) in
       elim (cases_lt p.next (k / each p * each p)) [
         | inl more ↦ omega (arith, more)
-        | inr not ↦ (let index : p.next / each p ≡ k / each p = div_in (each p) (k / each p) p.next (omega (arith, not)) (omega (arith, whole, part, low)) in
+        | inr not ↦ (let index : p.next / each p ≡ k / each p = counted_by p.next (each p) (k / each p) (omega (arith, not)) (omega (arith, whole, part, low)) in
             absurd (is.linked p.next (omega arith) less (ap (block_at p) index ∙ none)))
       ]));
   room = same;

@@ -15,7 +15,7 @@ use Rattle.qc_layout.specs.Room.{IsFreeFrom}
 use Rattle.qc_alloc.specs.declared.tables.Layout.{Layout}
 use Rattle.qc_alloc.specs.Tables.{IsLayout, IsTableOf, AreBlocks, IsRow, Notes, HasCounts, blocks_of, reach_by}
 use Rattle.qc_alloc.proofs.Layouts.{counts_twice, blocks_few, blocks_of_file, block_is_word, cluster_of_file}
-use Rattle.qc_alloc.proofs.Noting.{in_past}
+use Rattle.cluster_pool.proofs.Words.{past_set}
 
 -- ---- one refcount
 
@@ -175,7 +175,7 @@ counts_found l file blocks limit end past next set is count table are limited lo
     counted k near = let all = ap (λ (n : ℕ). n * counts_in l.cluster_bits) count in elim (cases_lt k next) [
       | inl low ↦ rw (lt-ltb k next low) (elim (cases_lt k limit) [
         | inl short ↦ notes.inside k (omega (arith, all, near)) (omega arith)
-        | inr far ↦ in_past set k (omega arith) ∙ sym (ap not (eq-eqb (refcount file k) 0 (zero_past k far near)))
+        | inr far ↦ past_set set k (omega arith) ∙ sym (ap not (eq-eqb (refcount file k) 0 (zero_past k far near)))
       ])
       | inr high ↦ rw (le-ltb k next high) (sym (ap not (eq-eqb (refcount file k) 0 (zero_from k (omega arith)))))
     ]

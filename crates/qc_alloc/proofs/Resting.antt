@@ -7,10 +7,10 @@ use Rattle.disk_model.proofs.Laws.{since_on, told_at}
 use Rattle.bitmap_model.specs.Granules.{is_in}
 use Rattle.cluster_pool.specs.Pool as pools
 use Rattle.cluster_pool.specs.Pool.{block_at, emptied}
-use Rattle.qc_alloc.specs.Allocator.{Allocator, IsAllocator, IsOf, IsHalfAdded, HasTable, Allocates}
-use Rattle.qc_alloc.specs.Settling.{HasBlocks, Settles, SettlesOn, SettlesAll}
+use Rattle.qc_alloc.specs.Allocator.{Allocator, IsAllocator, IsOf, IsHalfAdded, HasBlocks, HasTable, Allocates}
+use Rattle.qc_alloc.specs.Settling.{Settles, SettlesOn, SettlesAll}
 use Rattle.image_model.specs.Clusters.{Shape, Block, IsBlock, IsGood, IsSafe, IsKept, IsStanding, Moves, Reads}
-use Rattle.image_model.specs.Calls.{Told, AreExactly, AreSettled, Rests, LeavesGuest, SameTables}
+use Rattle.image_model.specs.Calls.{Told, AreNamed, AreSettled, Rests, LeavesGuest, SameTables}
 use Rattle.image_steps.proofs.Kept.{shown}
 use Rattle.image_steps.proofs.Pools.{rests_stand}
 use Rattle.qc_alloc.proofs.Settles.{all_settled}
@@ -64,8 +64,6 @@ allocates_after {s} {disks} {a} {w} counted from is stands table = record {
       (λ (same : u64_at (w.seen a.file) (s.counts + 8 * i) ≡ block_at a.pool i). inl same)
       (λ (half : IsHalfAdded s a i (w.seen a.file)). inr (record { missing = half.missing; counts = half.counts; word = half.word }))
       (table told i i_in);
-  ready = λ k d low. absurd (omega (arith, low));
-  fresh = omega arith;
 }
 
 -- ---- the first sync
@@ -88,12 +86,12 @@ pub record Through (s : Shape) (disks : List (List ℕ)) (first : ℕ) (a : Allo
   pub settles : Allocates s disks first a x → Settles s (y.seen a.file ∷ []) (after a a.pool.counted a.pool.from) w
   pub kept : Allocates s disks first a x → IsTrue x.tells → IsKept s disks (y.seen a.file)
 
-module _ {a : Allocator} (is : IsAllocator a) {x y : World} (call : Syncs a.file x y) (s : Shape) (disks : List (List ℕ)) (first : ℕ) (exactly : Told (AreExactly s (is_in a.pool.spoken)) a.file x) where
+module _ {a : Allocator} (is : IsAllocator a) {x y : World} (call : Syncs a.file x y) (s : Shape) (disks : List (List ℕ)) (first : ℕ) (named : Told (AreNamed s (is_in a.pool.spoken)) a.file x) where
   -- a block that was half added would be spoken for
   no_half : (i : ℕ) → i < s.blocks → IsTrue x.tells → IsHalfAdded s a i (x.seen a.file) → ⊥
   no_half i i_in told half =
       let block : IsBlock s (x.seen a.file) i a.pool.prepared = record { inside = i_in; some = is.some; at = half.word } in
-      false≢true (sym (is.unspoken a.pool.prepared (omega arith)) ∙ (exactly told).named (Block i) a.pool.prepared block)
+      false≢true (sym (is.unspoken a.pool.prepared (omega arith)) ∙ named told (Block i) a.pool.prepared block)
 
   has_blocks : Allocates s disks first a x → IsTrue x.tells → HasBlocks s a (x.seen a.file)
   has_blocks al told i i_in = ⊎_elim
@@ -181,8 +179,8 @@ as_moves {s} {disks} {ds} {first} {a} {now} {x} {w} b e same is moves =
     subst (λ (d : Allocator). Moves d.file (IsSafe s disks) (Allocates s disks first d) (Allocates s ds e.pool.next e) x w) same
     (subst (λ (d : Allocator). Moves a.file (IsSafe s disks) (Allocates s disks first a) (Allocates s ds d.pool.next d) x w) (sym is) moves)
 
-pub as_exactly : {s : Shape} {a now : Allocator} (x : World) → a ≡ now → Told (AreExactly s (is_in now.pool.spoken)) now.file x → Told (AreExactly s (is_in a.pool.spoken)) a.file x
-as_exactly {s} {a} {now} x same exactly = subst (λ (d : Allocator). Told (AreExactly s (is_in d.pool.spoken)) d.file x) (sym same) exactly
+pub as_named : {s : Shape} {a now : Allocator} (x : World) → a ≡ now → Told (AreNamed s (is_in now.pool.spoken)) now.file x → Told (AreNamed s (is_in a.pool.spoken)) a.file x
+as_named {s} {a} {now} x same named = subst (λ (d : Allocator). Told (AreNamed s (is_in d.pool.spoken)) d.file x) (sym same) named
 
 pub as_reads : {s : Shape} {disks : List (List ℕ)} {first : ℕ} {a now : Allocator} (x w : World) (X : Allocator → List ℕ → List ℕ → Type 0) → a ≡ now → Reads a.file (Allocates s disks first a) (X a) x w → Reads now.file (Allocates s disks first now) (X now) x w
 as_reads {s} {disks} {first} {a} {now} x w X same reads = subst (λ (d : Allocator). Reads d.file (Allocates s disks first d) (X d) x w) same reads

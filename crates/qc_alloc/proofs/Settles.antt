@@ -12,8 +12,8 @@ use Rattle.bitmap_model.specs.Granules.{is_in}
 use Rattle.qc_layout.specs.Disks.{counts_in, place_of}
 use Rattle.cluster_pool.specs.Pool as pools
 use Rattle.cluster_pool.specs.Pool.{block_at}
-use Rattle.qc_alloc.specs.Allocator.{Allocator, IsAllocator, IsOf}
-use Rattle.qc_alloc.specs.Settling.{HasBlocks, Settles, SettlesOn, count_for, HasSettled, SettlesAll, AreCountsOf}
+use Rattle.qc_alloc.specs.Allocator.{Allocator, IsAllocator, IsOf, HasBlocks}
+use Rattle.qc_alloc.specs.Settling.{Settles, SettlesOn, count_for, HasSettled, SettlesAll, AreCountsOf}
 use Rattle.image_model.specs.Clusters.{Shape, each, place, IsBlock, IsCounted, IsSafe, Moves, Reads, IsShape}
 use Rattle.image_model.specs.Calls.{Told, IsSettling, AreSettled, Rests, LeavesGuest, LeavesCounts, HasCounts, SameTables, SameBlocks}
 use Rattle.image_steps.proofs.Good.{safe}

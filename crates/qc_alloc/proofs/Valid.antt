@@ -3,14 +3,16 @@ use Rattle.std.proofs.Common.{◌≡◌, ◌≢◌, inl, inr, ℕ, ◌+◌, ◌*
 use Rattle.std.proofs.Common.{◌&&◌, ◌||◌, cond, refl, sym, ◌∙◌, ap, subst, arith}
 use Rattle.std.proofs.lemmas.Bool.{cases_eq, cases_lt, ne_eqb, eqb-false}
 use Rattle.std.proofs.lemmas.List.{length_push}
-use Rattle.std.proofs.lemmas.List.Elements.{All-push, All-weaker, All-nil, All-head, All-tail}
+use Rattle.std.proofs.lemmas.List.Elements.{All-push, All-weaker}
 use Rattle.bitmap_model.specs.Granules.{is_in}
 use Rattle.qc_layout.specs.Disks.{place_of}
 use Rattle.cluster_pool.specs.Pool.{Pool, IsPool, IsReady, AreRising, each, reach, block_at, block_of, is_own_block, becomes_block, is_open, prepared_on}
 use Rattle.cluster_pool.specs.Pool.{stepped, HasTakenRun, IsFirstRunOf}
+use Rattle.cluster_pool.proofs.Keeping.{rising_push}
+use Rattle.cluster_pool.proofs.Sizes.{place_of_same}
 use Rattle.qc_alloc.specs.Allocator.{Allocator, IsAllocator}
 use Rattle.qc_alloc.specs.Growing.{Raises, TakesRun}
-use Rattle.qc_alloc.proofs.Raising.{same_block, place_of_some, place_of_same}
+use Rattle.qc_alloc.proofs.Raising.{same_block, place_of_some}
 use Rattle.qc_alloc.proofs.Sizes.{place_of_small, place_of_next}
 
 -- ---- pools
@@ -33,14 +35,7 @@ pool_prepared p n is some within = record {
   at_once = is.at_once;
 }
 
-rising_push : (ks : List ℕ) (k : ℕ) → AreRising ks → All (λ m. m < k) ks → AreRising (ks ++ k ∷ [])
-rising_push [] k rising below = (All-nil (λ m. k < m), tt)
-rising_push (x ∷ xs) k rising below = (
-  All-push (λ m. x < m) xs k rising.0 (All-head (λ m. m < k) x xs below),
-  rising_push xs k rising.1 (All-tail (λ m. m < k) x xs below),
-)
-
-open_unspoken : (s o c : Bool) → (not s && (not o && not c)) ≡ true → (s ≡ false) × (o ≡ false)
+pub open_unspoken : (s o c : Bool) → (not s && (not o && not c)) ≡ true → (s ≡ false) × (o ≡ false)
 open_unspoken s o c e = (grind (arith, e), grind (arith, e))
 
 stepped_ready : (p : Pool) → IsPool p → p.next < p.prepared → p.next < reach p → is_open p p.next ≡ true → IsReady (stepped p) p.next
@@ -61,7 +56,7 @@ joined_all P true ready k all is = All-push P ready k all (is refl)
 joined_all P false ready k all is = all
 
 joined_rising : (o : Bool) (ready : List ℕ) (k : ℕ) → AreRising ready → All (λ m. m < k) ready → AreRising (joined o ready k)
-joined_rising true ready k rising below = rising_push ready k rising below
+joined_rising true ready k rising below = rising_push ready k below rising
 joined_rising false ready k rising below = rising
 
 pub joined_length : (o : Bool) (ready : List ℕ) (k : ℕ) → length (joined o ready k) ≤ length ready + 1

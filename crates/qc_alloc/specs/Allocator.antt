@@ -39,15 +39,21 @@ pub record IsHalfAdded (s : Shape) (a : Allocator) (i : ℕ) (file : List ℕ) :
   pub counts : i ≡ a.pool.prepared / each a.pool
   pub word : u64_at file (s.counts + 8 * i) ≡ place s a.pool.prepared
 
--- the words of the refcount table are its blocks, but for one that was half added
+-- the words of the refcount table are its blocks
+abbrev pub HasBlocks : Shape → Allocator → List ℕ → Type 0
+HasBlocks s a file = (i : ℕ) → i < s.blocks → u64_at file (s.counts + 8 * i) ≡ block_at a.pool i
+
+-- and but for one that was half added
 abbrev pub HasTable : Shape → Allocator → List ℕ → Type 0
 HasTable s a file = (i : ℕ) → i < s.blocks → (u64_at file (s.counts + 8 * i) ≡ block_at a.pool i) ⊎ IsHalfAdded s a i file
 
--- The image stands, with the clusters from `first` to those that aren't prepared ready, and the allocator knows it. The clusters that it
--- hands out next are among those.
+-- The image stands, with the clusters from `first` to those that aren't prepared ready, and the allocator knows it.
 pub record Allocates (s : Shape) (disks : List (List ℕ)) (first : ℕ) (a : Allocator) (w : World) : Type 0 where
   pub is : IsOf s a
   pub stands : IsStanding s disks first a.pool.prepared a.file w
   pub table : Told (HasTable s a) a.file w
+
+-- the clusters that it hands out next are among those from `first` on
+pub record HandsOut (first : ℕ) (a : Allocator) : Type 0 where
   pub ready : All (λ k. first ≤ k) a.pool.ready
   pub fresh : first ≤ a.pool.next

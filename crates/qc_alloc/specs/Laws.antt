@@ -1,11 +1,13 @@
 -- What layers above take from an allocator, as statements.
-use Rattle.std.specs.Prelude.{◌≢◌, ℕ, ◌<◌, ◌≤◌, List, IsTrue}
+use Rattle.std.specs.Prelude.{◌≡◌, ◌≢◌, ◌⊎◌, ℕ, ◌+◌, ◌<◌, ◌≤◌, List, IsTrue, false}
 use Rattle.disk_model.specs.World.{World, EachNow}
-use Rattle.cluster_pool.specs.Pool.{block_of}
+use Rattle.bitmap_model.specs.Granules.{is_in}
+use Rattle.cluster_pool.specs.Pool.{IsPool, block_of}
 use Rattle.qc_layout.specs.Disks.{place_of}
-use Rattle.image_model.specs.Clusters.{Shape, Who, Refers, IsCounted, IsZero}
-use Rattle.image_model.specs.Calls.{IsTakeable}
-use Rattle.qc_alloc.specs.Allocator.{Allocator, IsAllocator, Allocates}
+use Rattle.image_model.specs.Clusters.{Shape, Who, Block, Refers, IsCounted, IsZero}
+use Rattle.image_model.specs.Calls.{IsTakeable, AreNamed, AreExactly, LeavesGuest, SameTables}
+use Rattle.qc_alloc.specs.Allocator.{Allocator, IsAllocator, IsOf, IsHalfAdded, HasBlocks, HasTable, Allocates}
+use Rattle.qc_alloc.specs.Growing.{Raises, TakesRun}
 
 -- cluster k is counted once, its bytes are zero, and nothing refers to it
 pub record IsClean (s : Shape) (k : ℕ) (file : List ℕ) : Type 0 where
@@ -22,3 +24,27 @@ pub record CanBeUsed (s : Shape) (k f : ℕ) (w : World) : Type 0 where
 abbrev pub PreparedIsClean : Type 0
 PreparedIsClean = (s : Shape) (disks : List (List ℕ)) (first : ℕ) (a : Allocator) (w : World) (k : ℕ) → IsAllocator a → Allocates s disks first a w → IsTrue w.tells
     → first ≤ k → k < a.pool.prepared → block_of a.pool k ≢ 0 → block_of a.pool k ≢ place_of a.pool.bits k → CanBeUsed s k a.file w
+
+-- the clusters that are referred to are just those that are spoken for, but for a block that was half added
+pub record IsExact (s : Shape) (a : Allocator) (file : List ℕ) : Type 0 where
+  pub named : (who : Who) (k : ℕ) → Refers s file who k → IsTrue (is_in a.pool.spoken k) ⊎ ((i : ℕ) × (who ≡ Block i) × IsHalfAdded s a i file)
+  pub exact : (k : ℕ) → IsTrue (is_in a.pool.spoken k) → (who : Who) × Refers s file who k
+
+-- Calls that prepare clusters leave it so, whatever they answer; and where the words of the refcount table are the blocks, none was half added.
+abbrev pub PreparedStaysExact : Type 0
+PreparedStaysExact = (s : Shape) (a b : Allocator) (old new : List ℕ) → IsAllocator a → IsOf s a → Raises a.pool b.pool → HasTable s a old → HasTable s b new
+    → LeavesGuest s old new → SameTables s old new → IsExact s a old → IsExact s b new × (HasBlocks s b new → AreExactly s (is_in b.pool.spoken) new)
+
+-- After a run was taken: as `IsExact`, but that nothing refers to the run's clusters yet. They are spoken for since then alone.
+pub record IsExactButRun (s : Shape) (a b : Allocator) (count first : ℕ) (file : List ℕ) : Type 0 where
+  pub named : (who : Who) (k : ℕ) → Refers s file who k → IsTrue (is_in b.pool.spoken k) ⊎ ((i : ℕ) × (who ≡ Block i) × IsHalfAdded s b i file)
+  pub exact : (k : ℕ) → IsTrue (is_in b.pool.spoken k) → ((who : Who) × Refers s file who k) ⊎ ((first ≤ k) × (k < first + count))
+  pub unnamed : (who : Who) (k : ℕ) → first ≤ k → k < first + count → Refers s file who k → ⊥
+  pub unspoken : (k : ℕ) → first ≤ k → k < first + count → is_in a.pool.spoken k ≡ false
+  pub spoken : IsPool b.pool → (k : ℕ) → first ≤ k → k < first + count → IsTrue (is_in b.pool.spoken k)
+
+-- A call that takes a run leaves it so; and where the words of the refcount table are the blocks, all that is referred to is spoken for.
+abbrev pub RunStaysExact : Type 0
+RunStaysExact = (s : Shape) (a b : Allocator) (old new : List ℕ) (count first : ℕ) → IsAllocator a → IsOf s a → TakesRun a.pool b.pool count first
+    → HasTable s a old → HasTable s b new → LeavesGuest s old new → SameTables s old new → IsExact s a old
+    → IsExactButRun s a b count first new × (HasBlocks s b new → AreNamed s (is_in b.pool.spoken) new)

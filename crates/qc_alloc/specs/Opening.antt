@@ -1,15 +1,11 @@
 -- What an allocator is as an opening finds the image, and why there is none.
-use Rattle.std.specs.Prelude.{◌≡◌, ℕ, ◌<◌, List, [], not, ◌==◌, Option, Some, None, IsTrue}
+use Rattle.std.specs.Prelude.{◌≡◌, ℕ, ◌<◌, List, [], ◌++◌, not, ◌==◌, Option, Some, None}
 use Rattle.std.specs.List.{list_any}
-use Rattle.disk_model.specs.World.{World}
 use Rattle.bitmap_model.specs.Granules.{is_in}
 use Rattle.qc_layout.specs.declared.faults.ImageFault.{ImageFault}
 use Rattle.qc_layout.specs.declared.faults.ImageFault.TheVariants as faults
-use Rattle.qc_layout.specs.declared.header.Header.{Header}
-use Rattle.qc_layout.specs.declared.header.Part.{Part}
-use Rattle.qc_layout.specs.Spelling.{Spells}
 use Rattle.qc_layout.specs.Disks.{refcount}
-use Rattle.qc_layout.specs.Opening.{count_checks, refused_after}
+use Rattle.qc_layout.specs.Opening.{Check, count_checks, refused_after}
 use Rattle.qc_layout.specs.Loading.{claimed_in}
 use Rattle.qc_layout.specs.Room.{IsNextFree, HasRoom}
 use Rattle.cluster_pool.specs.Pool.{reach, room, is_counted}
@@ -27,16 +23,10 @@ rule_of (Uncounted offset) = Some (faults.Uncounted offset)
 rule_of Failed = None
 rule_of Memory = None
 
--- a header that a reader gave for some bytes; for those of the file, where files are told
-pub record IsRead (h : Header) (f : ℕ) (w : World) : Type 0 where
-  pub bytes : List ℕ
-  pub part : Part
-  pub spells : Spells part bytes h
-  pub told : IsTrue w.tells → w.seen f ≡ bytes
-
 -- nothing is refused of the refcounts; their clusters and the header are claimed, and nothing else is; the rest is as the file says
 pub record IsFound (a : Allocator) (file : List ℕ) : Type 0 where
-  pub passes : refused_after file [] (count_checks file) ≡ None
+  -- what follows is refused as if the clusters of the refcounts had been claimed
+  pub passes : (rest : List Check) → refused_after file [] (count_checks file ++ rest) ≡ refused_after file (claimed_in (count_checks file)) rest
   pub blocks : HasBlocksOf a.pool file
   pub spoken : (k : ℕ) → k < reach a.pool → is_in a.pool.spoken k ≡ list_any (λ other. other == k) (claimed_in (count_checks file))
   pub counted : (k : ℕ) → k < reach a.pool → is_counted a.pool k ≡ not (refcount file k == 0)

@@ -1,16 +1,11 @@
 -- What the counts of an image go through while they are settled.
 use Rattle.std.specs.Prelude.{◌≡◌, ◌⊎◌, ℕ, ◌+◌, ◌*◌, ◌<◌, ◌≤◌, List, Bool, if◌then◌else◌}
-use Rattle.disk_model.specs.Files.{u16_at, u64_at}
+use Rattle.disk_model.specs.Files.{u16_at}
 use Rattle.disk_model.specs.World.{World}
 use Rattle.bitmap_model.specs.Granules.{is_in}
-use Rattle.cluster_pool.specs.Pool.{block_at}
 use Rattle.image_model.specs.Clusters.{Shape, IsCounted, IsSafe, Moves, Reads}
 use Rattle.image_model.specs.Calls.{Told, Rests, LeavesGuest, SameTables}
-use Rattle.qc_alloc.specs.Allocator.{Allocator, IsOf}
-
--- the words of the refcount table are the blocks
-abbrev pub HasBlocks : Shape → Allocator → List ℕ → Type 0
-HasBlocks s a file = (i : ℕ) → i < s.blocks → u64_at file (s.counts + 8 * i) ≡ block_at a.pool i
+use Rattle.qc_alloc.specs.Allocator.{Allocator, IsOf, HasBlocks}
 
 -- The image rests, each counted cluster is one that is spoken for, and the allocator knows the blocks.
 pub record Settles (s : Shape) (disks : List (List ℕ)) (a : Allocator) (w : World) : Type 0 where

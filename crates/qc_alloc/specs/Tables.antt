@@ -2,7 +2,7 @@
 use Rattle.std.specs.Prelude.{◌≡◌, ◌≢◌, ◌⊎◌, ℕ, ◌+◌, ◌*◌, ◌/◌, ◌%◌, ◌^◌, ◌<◌, ◌≤◌, min, List, [], ◌∷◌, ◌++◌, length, Bool, false, not, ◌||◌, nat_lt, nat_le, ◌==◌, if◌then◌else◌, slice_index, Option, Some, None, Result, Ok, Err}
 use Rattle.std.specs.List.{list_any}
 use Rattle.disk_model.specs.Files.{u64_at}
-use Rattle.disk_model.specs.World.{World, Runs, reads_of, Rose}
+use Rattle.disk_model.specs.World.{World, Runs, reads_of, Rose, IsQuiet}
 use Rattle.bitmap_model.specs.Granules.{is_in}
 use Rattle.qc_layout.specs.declared.faults.ImageFault.{ImageFault}
 use Rattle.qc_layout.specs.declared.faults.ImageFault.TheVariants as faults
@@ -185,3 +185,4 @@ pub record IsKept (p q : Pool) : Type 0 where
 pub record Reads {T : Type 0} (f : ℕ) (old new : World) (result : Result T ClusterRefusal) : Type 0 where
   pub run : Runs (reads_of f) old new
   pub cause : result ≡ Err Failed → Rose old.faults.shared new.faults.shared × Rose (old.faults.reads f) (new.faults.reads f)
+  pub quiet : result ≢ Err Failed → IsQuiet old new

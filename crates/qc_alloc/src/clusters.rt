@@ -4,7 +4,7 @@ ghost use Rattle.std.specs.Prelude.{◌≡◌, ◌≢◌, ◌⊎◌, ℕ, ◌+�
 ghost use Rattle.bitmap_model.specs.Granules.{is_in};
 ghost use Rattle.qc_layout.specs.Disks.{place_of};
 ghost use Rattle.cluster_pool.specs.Pool.{IsPool, IsReady, room, fresh, claim_refusal, claimed, given_back, HasTaken};
-ghost use Rattle.qc_alloc.specs.Allocator.{IsAllocator};
+ghost use Rattle.qc_alloc.specs.Allocator.{IsAllocator, HandsOut};
 ghost use Rattle.qc_alloc.specs.Opening.{rule_of};
 ghost use Rattle.qc_alloc.specs.Tables.{IsClaimFault};
 
@@ -64,12 +64,13 @@ fn refusal_of(fault: ImageFault) -> ClusterRefusal
 
 impl Clusters {
     /// Records that something refers to a cluster, by its number. Refused are, in this order, one past the reach, one that was claimed
-    /// before, and one whose refcount is 0.
+    /// before, and one whose refcount is 0. Claims belong to an opening: after `settle`, one that was given back before is uncounted.
     pub fn claim(&mut self, index: u64) -> Result<(), ClusterRefusal>
         requires { place_of self.old.pool.bits index < 2 ^ 64 }
         ensures refused { IfErr result (λ why. (rule_of why ≢ None) × (rule_of why ≡ claim_refusal self.old.pool index)) }
         ensures claimed { OnOk result ((claim_refusal self.old.pool index ≡ None) × (self.new ≡ record self.old { pool = claimed self.old.pool index })) }
         ensures kept { OnErr result (self.new ≡ self.old) }
+        ensures hands { (first : ℕ) → HandsOut first self.old → HandsOut first self.new }
     {
         claim(&mut self.pool, index)
     }
@@ -80,6 +81,13 @@ impl Clusters {
         ensures allocator { IsAllocator self.now }
     {
         self.pool.room()
+    }
+
+    /// The first fresh cluster: after an opening, the file has no bytes from there on, and none is counted.
+    pub fn next(&self) -> u64
+        ensures { result ≡ self.now.pool.next }
+    {
+        self.pool.next()
     }
 
     /// How many clusters are ready.
@@ -97,11 +105,13 @@ impl Clusters {
         ensures fresh { fresh self.new.pool ≡ fresh self.old.pool }
         ensures allocator { IsAllocator self.old }
         ensures same { (self.new.file ≡ self.old.file) × (self.new.table ≡ self.old.table) }
+        ensures hands { (first : ℕ) → HandsOut first self.old → (first ≤ result) × HandsOut (result + 1) self.new }
     {
         self.pool.take_ready()
     }
 
-    /// Nothing refers any more to a cluster that was claimed or taken. It isn't handed out again.
+    /// Nothing refers any more to a cluster that was claimed or taken. One before the first fresh cluster isn't handed out again; one that
+    /// was claimed among the fresh ones is fresh again.
     pub fn give_back(&mut self, index: u64)
         requires { IsTrue (is_in self.old.pool.spoken index) }
         ensures { self.new ≡ record self.old { pool = given_back self.old.pool index } }

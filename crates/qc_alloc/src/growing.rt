@@ -4,10 +4,10 @@ ghost use Rattle.std.specs.Prelude.{◌≡◌, ◌≢◌, ◌↔◌, ◌⊎◌, 
 ghost use Rattle.disk_model.specs.World.{World};
 ghost use Rattle.disk_model.specs.declared.depot.WriteRefusal.TheVariants as refusals;
 ghost use Rattle.file_device.specs.Calls.{Puts};
-ghost use Rattle.cluster_pool.specs.Pool.{IsPool, room, reach, each, block_of, HasNoRunOf, IsFirstRunOf};
+ghost use Rattle.cluster_pool.specs.Pool.{IsPool, room, fresh, reach, each, block_of, HasNoRunOf, IsFirstRunOf};
 ghost use Rattle.image_model.specs.Calls.{AreOnes};
 ghost use Rattle.qc_alloc.specs.Allocator.{IsAllocator};
-ghost use Rattle.qc_alloc.specs.Growing.{Raises, Grows, TakesRun};
+ghost use Rattle.qc_alloc.specs.Growing.{at_once, Raises, Grows, NamesBlocks, MendsBlocks, TakesRun};
 
 use crate::clusters::Clusters;
 use disk_model::{Depot, Failed, WriteRefusal};
@@ -32,7 +32,8 @@ fn write_ones(counts: &mut [u8], count: usize)
 
 impl Clusters {
     /// Makes at least `want` clusters ready, at most 64: counted once, zero, and synced so. It prepares more than is asked for, twice
-    /// as many as the last time, so that a long write of new clusters seldom waits for a sync. `NoRoom` comes exactly where fewer can
+    /// as many as the last time, so that a long write of new clusters seldom waits for a sync, but no more beyond than a sixteenth of the
+    /// fresh ones. `NoRoom` comes exactly where fewer can
     /// be handed out, and then nothing is done.
     pub fn top_up<D: Depot>(&mut self, depot: &mut D, want: usize) -> Result<(), WriteRefusal>
         requires given { self.old.file < (D.world depot.old).given }
@@ -43,6 +44,9 @@ impl Clusters {
         ensures ready { OnOk result (length self.new.pool.ready ≡ max want (length self.old.pool.ready)) }
         ensures pool { Raises self.old.pool self.new.pool }
         ensures grows { Grows self.old self.new (D.world depot.old) (D.world depot.new) }
+        ensures words { OnOk result (MendsBlocks self.old self.new (D.world depot.old) (D.world depot.new)) }
+        ensures most { self.new.pool.prepared ≤ max self.old.pool.prepared (self.new.pool.next + (want - length self.old.pool.ready) + fresh self.old.pool / 16) }
+        ensures bytes { self.new.pool.prepared ≤ max self.old.pool.prepared (self.new.pool.next + max want (at_once self.old.pool.bits)) }
         ensures puts { result ≢ Err refusals.NoRoom → Puts self.old.file (D.world depot.old) (D.world depot.new) result }
     {
         if self.pool.room() < want as u64 {
@@ -62,6 +66,8 @@ impl Clusters {
 
     /// Takes the first of so many neighbours, each counted once, zero, and synced so. They are the first fresh ones of which none becomes a
     /// refcount block; fresh ones before them are passed over. `NoRoom` comes exactly where there is no such run, and then nothing is done.
+    ///
+    /// Clusters that are ready lie below a run: whoever needs them takes them before the run is used (see `HandsOut`).
     pub fn take_run<D: Depot>(&mut self, depot: &mut D, count: u64) -> Result<u64, WriteRefusal>
         requires given { self.old.file < (D.world depot.old).given }
         requires some { 0 < count }
@@ -71,6 +77,8 @@ impl Clusters {
         ensures takes { IfOk result (TakesRun self.old.pool self.new.pool count) }
         ensures failed { OnErr result (Raises self.old.pool self.new.pool × (self.new.pool.ready ≡ self.old.pool.ready)) }
         ensures grows { Grows self.old self.new (D.world depot.old) (D.world depot.new) }
+        ensures words { OnOk result (MendsBlocks self.old self.new (D.world depot.old) (D.world depot.new)) }
+        ensures most { (first : ℕ) → IsFirstRunOf self.old.pool count first → self.new.pool.prepared ≤ max self.old.pool.prepared (first + count) }
         ensures puts { result ≢ Err refusals.NoRoom → Puts self.old.file (D.world depot.old) (D.world depot.new) result }
     {
         let first = match self.pool.find_run(count) {
@@ -89,7 +97,9 @@ impl Clusters {
     fn plan(&self, lack: u64) -> u64
         requires { lack ≤ 64 }
         ensures least { lack ≤ result }
-        ensures most { result ≤ 2 ^ 30 }
+        ensures most { result ≤ lack + fresh self.now.pool / 16 }
+        ensures bytes { result ≤ max lack (at_once self.now.pool.bits) }
+        ensures few { result ≤ 2 ^ 30 }
     {
         let limit = (MOST_BYTES >> self.pool.cluster_bits()).min(MOST_CLUSTERS);
         let more = (2 * self.batch)
@@ -109,6 +119,7 @@ impl Clusters {
         ensures kept { (self.new.pool.ready ≡ self.old.pool.ready) × (self.new.pool.next ≡ self.old.pool.next) }
         ensures pool { Raises self.old.pool self.new.pool }
         ensures grows { Grows self.old self.new (D.world depot.old) (D.world depot.new) }
+        ensures words { OnOk result (NamesBlocks self.old self.new (D.world depot.old) (D.world depot.new)) }
         ensures puts { Puts self.old.file (D.world depot.old) (D.world depot.new) result }
     {
         let each = 1u64 << (self.pool.cluster_bits() - 1);
@@ -145,6 +156,7 @@ impl Clusters {
         ensures kept { (self.new.pool.ready ≡ self.old.pool.ready) × (self.new.pool.next ≡ self.old.pool.next) }
         ensures pool { Raises self.old.pool self.new.pool }
         ensures grows { Grows self.old self.new (D.world depot.old) (D.world depot.new) }
+        ensures words { OnOk result (NamesBlocks self.old self.new (D.world depot.old) (D.world depot.new)) }
         ensures puts { Puts self.old.file (D.world depot.old) (D.world depot.new) result }
     {
         let bits = self.pool.cluster_bits();
@@ -174,6 +186,7 @@ impl Clusters {
         ensures kept { (self.new.pool.ready ≡ self.old.pool.ready) × (self.new.pool.next ≡ self.old.pool.next) }
         ensures pool { Raises self.old.pool self.new.pool }
         ensures grows { Grows self.old self.new (D.world depot.old) (D.world depot.new) }
+        ensures words { OnOk result (NamesBlocks self.old self.new (D.world depot.old) (D.world depot.new)) }
         ensures puts { Puts self.old.file (D.world depot.old) (D.world depot.new) result }
     {
         let bits = self.pool.cluster_bits();

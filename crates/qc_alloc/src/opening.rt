@@ -2,15 +2,16 @@
 
 ghost use Rattle.std.specs.Prelude.{◌≡◌, ◌≢◌, ℕ, ◌+◌, ◌*◌, ◌/◌, ◌%◌, ◌^◌, ◌<◌, ◌≤◌, List, [], ◌∷◌, length, map, Some, None, IfOk, IfErr, OnOk, IsTrue};
 ghost use Rattle.std.specs.List.{range_with_len};
-ghost use Rattle.disk_model.specs.World.{World, Runs, reads_of, ReadCause};
+ghost use Rattle.disk_model.specs.World.{World, Runs, reads_of, ReadCause, IsQuiet};
 ghost use Rattle.qc_layout.specs.Disks.{bits_of, blocks_in};
 ghost use Rattle.qc_layout.specs.Opening.{Check, count_clusters, each_below, block_named, block_claims, count_tests, count_claims, count_checks, refused_after};
 ghost use Rattle.qc_layout.specs.Opening.Check.{Claim};
 ghost use Rattle.qc_layout.specs.Owners.{Who};
 ghost use Rattle.qc_layout.specs.Owners.Who.{Head, Counts, Block};
+ghost use Rattle.image_header.specs.Headers.{IsRead};
 ghost use Rattle.qc_alloc.specs.declared.refusals.ClusterRefusal.TheVariants as refusals;
 ghost use Rattle.cluster_pool.specs.Pool.{block_at, reach};
-ghost use Rattle.qc_alloc.specs.Opening.{rule_of, IsRead, IsFound};
+ghost use Rattle.qc_alloc.specs.Opening.{rule_of, IsFound};
 ghost use Rattle.qc_alloc.specs.Tables.{IsLayout, IsLayoutOf, blocks_of, AreBlocks, IsReached, Stops, Knows, Went, Names, IsFresh, IsTested, IsKept, Reads};
 
 use crate::clusters::{Clusters, claim};
@@ -43,6 +44,7 @@ impl Clusters {
         ensures refused { IfErr result (λ why. rule_of why ≢ None → IsTrue (D.world depot.old).tells →
             rule_of why ≡ refused_after ((D.world depot.old).seen file.0) [] (count_checks ((D.world depot.old).seen file.0))) }
         ensures failed { result ≡ Err refusals.Failed → ReadCause (D.world depot.old) (D.world depot.new) file.0 result }
+        ensures quiet { result ≢ Err refusals.Failed → IsQuiet (D.world depot.old) (D.world depot.new) }
         ensures run { Runs (reads_of file.0) (D.world depot.old) (D.world depot.new) }
     {
         let layout = Layout::of(&header.fields);

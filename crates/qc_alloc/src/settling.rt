@@ -5,9 +5,9 @@ ghost use Rattle.file_device.specs.Calls.{Puts};
 ghost use Rattle.file_device.specs.File.{file_of, IsSettled};
 ghost use Rattle.bitmap_model.specs.Granules.{is_in};
 ghost use Rattle.image_model.specs.Clusters.{Shape, IsSafe, Moves, Reads};
-ghost use Rattle.image_model.specs.Calls.{Told, AreExactly, AreSettled, LeavesGuest, SameTables};
+ghost use Rattle.image_model.specs.Calls.{Told, AreNamed, AreSettled, LeavesGuest, SameTables};
 ghost use Rattle.cluster_pool.specs.Pool.{IsPool, each, block_at};
-ghost use Rattle.qc_alloc.specs.Allocator.{Allocates};
+ghost use Rattle.qc_alloc.specs.Allocator.{Allocates, HandsOut};
 ghost use Rattle.qc_alloc.specs.Growing.{after_settling};
 ghost use Rattle.qc_alloc.specs.Settling.{SettlesOn, SettlesAll, AreCountsOf};
 
@@ -51,16 +51,17 @@ impl Clusters {
         requires given { self.old.file < (D.world depot.old).given }
 
         ensures pool { self.new ≡ record self.old { pool = after_settling result self.old.pool } }
+        ensures hands { HandsOut self.new.pool.next self.new }
 
-        // Where the clusters that are spoken for are those that something refers to, each crash leaves a file that an opening takes.
-        ensures moves { (s : Shape) (disks : List (List ℕ)) (first : ℕ) → Told (AreExactly s (is_in self.old.pool.spoken)) self.old.file (D.world depot.old) →
+        // Where each cluster that something refers to is spoken for, each crash leaves a file that an opening takes.
+        ensures moves { (s : Shape) (disks : List (List ℕ)) (first : ℕ) → Told (AreNamed s (is_in self.old.pool.spoken)) self.old.file (D.world depot.old) →
             Moves self.old.file (IsSafe s disks) (Allocates s disks first self.old) (Allocates s disks self.new.pool.next self.new) (D.world depot.old) (D.world depot.new) }
-        ensures one { OnOk result ((s : Shape) (disks : List (List ℕ)) (first : ℕ) → Told (AreExactly s (is_in self.old.pool.spoken)) self.old.file (D.world depot.old) →
+        ensures one { OnOk result ((s : Shape) (disks : List (List ℕ)) (first : ℕ) → Told (AreNamed s (is_in self.old.pool.spoken)) self.old.file (D.world depot.old) →
             Moves self.old.file (IsSafe s disks) (Allocates s disks first self.old)
             (Allocates s ((D.world depot.new).seen self.old.file ∷ []) self.new.pool.next self.new) (D.world depot.old) (D.world depot.new)) }
-        ensures counts { OnOk result ((s : Shape) (disks : List (List ℕ)) (first : ℕ) → Told (AreExactly s (is_in self.old.pool.spoken)) self.old.file (D.world depot.old) →
+        ensures counts { OnOk result ((s : Shape) (disks : List (List ℕ)) (first : ℕ) → Told (AreNamed s (is_in self.old.pool.spoken)) self.old.file (D.world depot.old) →
             Reads self.old.file (Allocates s disks first self.old) (λ old new. AreSettled s (is_in self.old.pool.spoken) new) (D.world depot.old) (D.world depot.new)) }
-        ensures leaves { (s : Shape) (disks : List (List ℕ)) (first : ℕ) → Told (AreExactly s (is_in self.old.pool.spoken)) self.old.file (D.world depot.old) →
+        ensures leaves { (s : Shape) (disks : List (List ℕ)) (first : ℕ) → Told (AreNamed s (is_in self.old.pool.spoken)) self.old.file (D.world depot.old) →
             Reads self.old.file (Allocates s disks first self.old) (λ old new. LeavesGuest s old new × SameTables s old new) (D.world depot.old) (D.world depot.new) }
 
         ensures settled { OnOk result (IsSettled (file_of (D.world depot.new) self.old.file)) }

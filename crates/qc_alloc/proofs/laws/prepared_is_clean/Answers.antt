@@ -9,10 +9,10 @@ use Rattle.image_steps.proofs.Views.{ready_is, IsFree}
 use Rattle.qc_layout.specs.Disks.{place_of}
 use Rattle.cluster_pool.specs.Pool as pools
 use Rattle.cluster_pool.specs.Pool.{block_at}
+use Rattle.cluster_pool.proofs.Sizes.{each_some}
 use Rattle.qc_alloc.specs.Allocator.{IsHalfAdded}
 use Rattle.qc_alloc.specs.Laws.{IsClean}
 use Rattle.qc_alloc.proofs.Grown.{each_is, place_is}
-use Rattle.qc_alloc.proofs.Raising.{each_some}
 use Rattle.qc_alloc.proofs.laws.prepared_is_clean.Goals as goal
 
 clean : (s : Shape) (k : ℕ) (file : List ℕ) → IsFree s k file → IsClean s k file
@@ -23,7 +23,7 @@ returns c = λ s disks first a w k is al told low high linked differs.
     let index = k / pools.each a.pool in
     let block = is.blocks index linked in
     let same = each_is s a al.is in
-    let slot_in : k % pools.each a.pool < pools.each a.pool = mod-lt k (each_some a.pool is.pool) in
+    let slot_in : k % pools.each a.pool < pools.each a.pool = mod-lt k (each_some a.pool.bits is.pool.low) in
     let inside : index < s.blocks = elim (cases_lt index (length a.pool.blocks)) [
       | inl below ↦ omega (
         arith,

@@ -1,5 +1,6 @@
 use Rattle.std.proofs.Common.{◌≢◌, ℕ, List, [], length, None, IsTrue, ap, sym, subst, ◌∙◌, arith}
 use Rattle.disk_model.proofs.Laws.{run_on}
+use Rattle.file_device.proofs.Laws.{quiet_on}
 use Rattle.qc_layout.specs.Opening.{count_tests}
 use Rattle.qc_alloc.specs.declared.refusals.ClusterRefusal.{ClusterRefusal}
 use Rattle.qc_alloc.specs.Opening.{rule_of}
@@ -55,11 +56,11 @@ returns-in_err-found-clause-refused g c =
 
 pub returns-in_err-found-clause-reads : goal.returns-in_err-found-clause-reads
 returns-in_err-found-clause-reads g c =
-    reads_handed c.from_residual-in_err-found.result (reads_on c.in_ok-blocks.ensures.reads.run c.in_err-found.ensures.reads) c.from_residual-in_err-found.ensures.1
+    reads_handed c.from_residual-in_err-found.result (reads_on c.in_ok-blocks.ensures.reads.run (c.in_ok-blocks.ensures.reads.quiet (λ failed. cc)) c.in_err-found.ensures.reads) c.from_residual-in_err-found.ensures.1
 
 pub returns-in_err-pool-clause-reads : goal.returns-in_err-pool-clause-reads
 returns-in_err-pool-clause-reads g c =
-    reads_after c.from_residual-in_err-pool.result (run_on c.in_ok-blocks.ensures.reads.run c.in_ok-found.ensures.reads.run) (not_memory c.from_residual-in_err-pool.result c.from_residual-in_err-pool.ensures.1)
+    reads_after c.from_residual-in_err-pool.result (run_on c.in_ok-blocks.ensures.reads.run c.in_ok-found.ensures.reads.run) (quiet_on (c.in_ok-blocks.ensures.reads.quiet (λ failed. cc)) (c.in_ok-found.ensures.reads.quiet (λ failed. cc))) (not_memory c.from_residual-in_err-pool.result c.from_residual-in_err-pool.ensures.1)
 
 pub returns-clause-fresh : goal.returns-clause-fresh
 returns-clause-fresh g c =
@@ -79,7 +80,7 @@ returns-clause-tested g c told of =
     tested_found l c.in_ok-pool.pool seen c.in_ok-blocks.blocks.items _ _ c.requires.layout of c.in_ok-test_table.ensures.reached e.count e.blocks (e.words told) has c.in_ok-pool.ensures
 
 pub returns-clause-reads : goal.returns-clause-reads
-returns-clause-reads g c = reads_after _ (run_on c.in_ok-blocks.ensures.reads.run c.in_ok-found.ensures.reads.run) (λ failed. absurd (cc))
+returns-clause-reads g c = reads_after _ (run_on c.in_ok-blocks.ensures.reads.run c.in_ok-found.ensures.reads.run) (quiet_on (c.in_ok-blocks.ensures.reads.quiet (λ failed. cc)) (c.in_ok-found.ensures.reads.quiet (λ failed. cc))) (λ failed. absurd (cc))
 
 pub new-requires-clause-few : goal.new-requires-clause-few
 new-requires-clause-few g c = let few = blocks_few c.args.layout c.requires.layout in omega (arith, few, c.in_ok-blocks.ensures.count)

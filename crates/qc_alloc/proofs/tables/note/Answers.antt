@@ -1,6 +1,7 @@
 use Rattle.std.proofs.Common.{◌≢◌, ◌+◌, ◌<◌, List, length, Bool, refl, sym, ap, subst, ◌∙◌, arith}
 use Rattle.qc_alloc.specs.Tables.{Notes}
-use Rattle.qc_alloc.proofs.Noting.{length-with, note_in}
+use Rattle.cluster_pool.proofs.Words.{length-with}
+use Rattle.qc_alloc.proofs.Noting.{note_in}
 use Rattle.qc_alloc.proofs.tables.note.Goals as goal
 
 pub returns-then-cluster-counted-clause-limit : goal.returns-then-cluster-counted-clause-limit

@@ -5,7 +5,7 @@ use Rattle.image_model.specs.Calls.{AreOnes}
 use Rattle.cluster_pool.specs.Pool.{Pool, IsPool, reach, each, block_of}
 use Rattle.qc_alloc.specs.Allocator.{Allocator}
 use Rattle.qc_alloc.specs.Inside.{allocator_view}
-use Rattle.qc_alloc.specs.Growing.{Raises, Grows}
+use Rattle.qc_alloc.specs.Growing.{Raises, Grows, NamesBlocks}
 use Rattle.qc_alloc.proofs.Grown.{Counts}
 use Rattle.qc_alloc.proofs.Coded.{shifted, half, counted_at}
 use Rattle.qc_alloc.proofs.Raising.{raises_none, raises_prepared, place_of_some}
@@ -80,6 +80,7 @@ returns-in_err-top_up-clause-grows g c =
       moves = λ s disks first q i low is. c.in_err-top_up.ensures.moves s disks first a.pool.prepared q i low n is;
       leaves = λ s disks first q i low is. c.in_err-top_up.ensures.leaves s disks first a.pool.prepared q i low n is;
       rows = λ s disks first q i low is. c.in_err-top_up.ensures.rows s disks first a.pool.prepared q i low n is;
+      others = λ s disks first q i low is. c.in_err-top_up.ensures.others s disks first a.pool.prepared q i low n is;
       frame = c.in_err-top_up.ensures.frame;
     } in
     let long = length-take-le (2 * n) c.deref.result.now
@@ -93,8 +94,8 @@ returns-in_err-top_up-clause-grows g c =
       c.requires.few,
     )) in
     subst (λ (x : Allocator). Grows x a (g.D.Outside.world c.args.depot.now) (g.D.Outside.world c.top_up.new.depot)) c.self.view_is
-    (counted_at a c.self.invariant.allocator bits last c.cluster_bits-bits.ensures.bits c.prepared-last.ensures n a.pool.prepared c.args.block counts _ _ c.in_err-top_up.ensures.puts.calls.run c.requires.some
-    (λ none. c.requires.linked (block ∙ none)) block within below long (ones_part n c.deref.result.now (subst (AreOnes n) (sym written) c.write_ones.ensures.ones)) call _ refl refl refl)
+    ((counted_at a c.self.invariant.allocator bits last c.cluster_bits-bits.ensures.bits c.prepared-last.ensures n a.pool.prepared c.args.block counts _ _ c.in_err-top_up.ensures.puts.calls.run c.requires.some
+    (λ none. c.requires.linked (block ∙ none)) block within below long (ones_part n c.deref.result.now (subst (AreOnes n) (sym written) c.write_ones.ensures.ones)) call _ refl refl refl).0)
 
 pub invariant_of-self-2 : goal.invariant_of-self-2
 invariant_of-self-2 g c =
@@ -156,6 +157,7 @@ returns-clause-grows g c =
       moves = λ s disks first q i low is. c.in_ok-top_up.ensures.moves s disks first a.pool.prepared q i low n is;
       leaves = λ s disks first q i low is. c.in_ok-top_up.ensures.leaves s disks first a.pool.prepared q i low n is;
       rows = λ s disks first q i low is. c.in_ok-top_up.ensures.rows s disks first a.pool.prepared q i low n is;
+      others = λ s disks first q i low is. c.in_ok-top_up.ensures.others s disks first a.pool.prepared q i low n is;
       frame = c.in_ok-top_up.ensures.frame;
     } in
     let long = length-take-le (2 * n) c.deref.result.now
@@ -169,5 +171,44 @@ returns-clause-grows g c =
       c.requires.few,
     )) in
     subst (λ (x : Allocator). Grows x (record a { pool = c.prepare.new.self }) (g.D.Outside.world c.args.depot.now) (g.D.Outside.world c.top_up.new.depot)) c.self.view_is
-    (counted_at a c.self.invariant.allocator bits last c.cluster_bits-bits.ensures.bits c.prepared-last.ensures n (a.pool.prepared + n) c.args.block counts _ _ c.in_ok-top_up.ensures.puts.calls.run c.requires.some
-    (λ none. c.requires.linked (block ∙ none)) block within below long (ones_part n c.deref.result.now (subst (AreOnes n) (sym written) c.write_ones.ensures.ones)) call _ refl refl c.prepare.ensures.prepared)
+    ((counted_at a c.self.invariant.allocator bits last c.cluster_bits-bits.ensures.bits c.prepared-last.ensures n (a.pool.prepared + n) c.args.block counts _ _ c.in_ok-top_up.ensures.puts.calls.run c.requires.some
+    (λ none. c.requires.linked (block ∙ none)) block within below long (ones_part n c.deref.result.now (subst (AreOnes n) (sym written) c.write_ones.ensures.ones)) call _ refl refl c.prepare.ensures.prepared).0)
+
+pub returns-clause-words : goal.returns-clause-words
+returns-clause-words g c =
+    let a = allocator_view c.self.inside in
+    let n = c.args.count in
+    let last = c.prepared-last.result in
+    let bits = c.cluster_bits-bits.result in
+    let below = subst (λ (x : Allocator). x.pool.prepared + n ≤ reach x.pool) (sym c.self.view_is) c.requires.below in
+    let within = subst (λ (x : Allocator). x.pool.prepared % each x.pool + n ≤ each x.pool) (sym c.self.view_is) c.requires.within in
+    let block : c.args.block ≡ block_of a.pool a.pool.prepared = subst
+    (λ (x : Allocator). c.args.block ≡ block_of x.pool x.pool.prepared) (sym c.self.view_is) c.requires.block in
+    let counts = take (2 * n) c.deref.result.now in
+    let written = c.deref.ensures.value ∙ with_items_is c.self.inside.counts c.write_ones.new.counts (omega (
+      arith,
+      c.write_ones.ensures.same_length,
+      ap
+          (λ (x : List ℕ). length x) c.deref_mut.ensures.value,
+      c.self.inside.counts.ok.0,
+    )) in
+    let call : Counts a.file a.pool.prepared n (a.pool.prepared + n) (shifted bits (last + n) - 1) (c.args.block + 2 * (last % half bits)) counts (g.D.Outside.world c.args.depot.now) (g.D.Outside.world c.top_up.new.depot) = record {
+      moves = λ s disks first q i low is. c.in_ok-top_up.ensures.moves s disks first a.pool.prepared q i low n is;
+      leaves = λ s disks first q i low is. c.in_ok-top_up.ensures.leaves s disks first a.pool.prepared q i low n is;
+      rows = λ s disks first q i low is. c.in_ok-top_up.ensures.rows s disks first a.pool.prepared q i low n is;
+      others = λ s disks first q i low is. c.in_ok-top_up.ensures.others s disks first a.pool.prepared q i low n is;
+      frame = c.in_ok-top_up.ensures.frame;
+    } in
+    let long = length-take-le (2 * n) c.deref.result.now
+    (omega (
+      arith,
+      ap (λ (x : List ℕ). length x) written,
+      c.write_ones.ensures.same_length,
+      ap (λ (x : List ℕ). length x) c.deref_mut.ensures.value,
+      c.self.invariant.counts,
+      within,
+      c.requires.few,
+    )) in
+    subst (λ (x : Allocator). NamesBlocks x (record a { pool = c.prepare.new.self }) (g.D.Outside.world c.args.depot.now) (g.D.Outside.world c.top_up.new.depot)) c.self.view_is
+    ((counted_at a c.self.invariant.allocator bits last c.cluster_bits-bits.ensures.bits c.prepared-last.ensures n (a.pool.prepared + n) c.args.block counts _ _ c.in_ok-top_up.ensures.puts.calls.run c.requires.some
+    (λ none. c.requires.linked (block ∙ none)) block within below long (ones_part n c.deref.result.now (subst (AreOnes n) (sym written) c.write_ones.ensures.ones)) call _ refl refl c.prepare.ensures.prepared).1)

@@ -122,3 +122,15 @@ invariant_of-result g c =
       counts = omega (arith, half, long, most);
       batch = omega arith;
     }
+
+pub returns-in_err-pool-clause-quiet : goal.returns-in_err-pool-clause-quiet
+returns-in_err-pool-clause-quiet g c = (reads_handed c.from_residual.result c.in_err-pool.ensures.reads c.from_residual.ensures.1).quiet
+
+pub returns-in_err-claim_all-clause-quiet : goal.returns-in_err-claim_all-clause-quiet
+returns-in_err-claim_all-clause-quiet g c other = c.in_ok-pool.ensures.reads.quiet (λ failed. cc)
+
+pub returns-in_err-counts-clause-quiet : goal.returns-in_err-counts-clause-quiet
+returns-in_err-counts-clause-quiet g c other = c.in_ok-pool.ensures.reads.quiet (λ failed. cc)
+
+pub returns-clause-quiet : goal.returns-clause-quiet
+returns-clause-quiet g c other = c.in_ok-pool.ensures.reads.quiet (λ failed. cc)

@@ -1,11 +1,11 @@
-use Rattle.std.proofs.Common.{◌≡◌, ◌+◌, ◌<◌, length, OnOk, sym, ◌∙◌, ap, subst, arith}
+use Rattle.std.proofs.Common.{◌≡◌, ◌+◌, ◌<◌, OnOk, sym, ◌∙◌, ap, subst, arith}
 use Rattle.std.proofs.Math.Nat.{mod-lt}
-use Rattle.std.proofs.lemmas.Nat.{div_below}
 use Rattle.std.proofs.lemmas.Result.{on_ok_weaker}
-use Rattle.cluster_pool.specs.Pool.{reach, each, block_at, block_of}
+use Rattle.cluster_pool.specs.Pool.{reach, block_at, block_of}
+use Rattle.cluster_pool.proofs.Sizes.{each_some, block_inside}
 use Rattle.qc_alloc.specs.Allocator.{Allocator}
+use Rattle.qc_alloc.specs.Growing.{NamesBlocks}
 use Rattle.qc_alloc.specs.Inside.{allocator_view}
-use Rattle.qc_alloc.proofs.Raising.{each_some}
 use Rattle.qc_alloc.proofs.Coded.{half_is, index_is, slot_is}
 use Rattle.qc_alloc.proofs.clusters.Clusters.prepare.Goals as goal
 
@@ -14,14 +14,7 @@ block-block-requires g c =
     let a = allocator_view c.self.inside in
     let below = subst (λ (x : Allocator). x.pool.prepared < reach x.pool) (sym c.self.view_is) c.requires.below in
     let index = index_is a c.self.invariant.allocator c.cluster_bits.result c.prepared-last.result c.cluster_bits.ensures.bits c.prepared-last.ensures in
-    omega (
-      arith,
-      index,
-      div_below a.pool.prepared (each a.pool) (length a.pool.blocks) (each_some a.pool c.self.invariant.allocator.pool) (omega (
-        arith,
-        below,
-      )),
-    )
+    omega (arith, index, block_inside a.pool c.self.invariant.allocator.pool a.pool.prepared below)
 
 pub add_block-requires-clause-missing : goal.add_block-requires-clause-missing
 add_block-requires-clause-missing g c =
@@ -41,7 +34,7 @@ count_clusters-requires-clause-within g c =
     let a = allocator_view c.self.inside in
     let slot = slot_is a c.self.invariant.allocator c.cluster_bits.result c.prepared-last.result c.cluster_bits.ensures.bits c.prepared-last.ensures in
     let each = half_is a c.self.invariant.allocator c.cluster_bits.result c.prepared-last.result c.cluster_bits.ensures.bits c.prepared-last.ensures in
-    let part = mod-lt a.pool.prepared (each_some a.pool c.self.invariant.allocator.pool) in
+    let part = mod-lt a.pool.prepared (each_some a.pool.bits c.self.invariant.allocator.pool.low) in
     omega (arith, slot, each, part, c.min.ensures, c.min-2.ensures, c.min-count.ensures)
 
 pub returns-clause-more : goal.returns-clause-more
@@ -50,7 +43,7 @@ returns-clause-more g c =
     let below = subst (λ (x : Allocator). x.pool.prepared < reach x.pool) (sym c.self.view_is) c.requires.below in
     let slot = slot_is a c.self.invariant.allocator c.cluster_bits.result c.prepared-last.result c.cluster_bits.ensures.bits c.prepared-last.ensures in
     let each = half_is a c.self.invariant.allocator c.cluster_bits.result c.prepared-last.result c.cluster_bits.ensures.bits c.prepared-last.ensures in
-    let part = mod-lt a.pool.prepared (each_some a.pool c.self.invariant.allocator.pool) in
+    let part = mod-lt a.pool.prepared (each_some a.pool.bits c.self.invariant.allocator.pool.low) in
     let some : 0 < c.min-count.result = omega (
       arith,
       slot,
@@ -72,3 +65,8 @@ returns-clause-more g c =
       e,
       some,
     )) c.count_clusters.ensures.more)
+
+pub returns-clause-words : goal.returns-clause-words
+returns-clause-words g c =
+    subst (λ (x : Allocator). OnOk c.count_clusters.result (NamesBlocks x c.count_clusters.new.self (g.D.Outside.world c.args.depot.now) (g.D.Outside.world c.count_clusters.new.depot)))
+    c.self.view_is c.count_clusters.ensures.words

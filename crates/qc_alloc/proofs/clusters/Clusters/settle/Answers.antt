@@ -8,11 +8,11 @@ use Rattle.qc_alloc.specs.Inside.{allocator_view}
 use Rattle.qc_alloc.specs.Settling.{SettlesOn, SettlesAll}
 use Rattle.image_model.specs.Clusters.{IsSafe, Moves}
 use Rattle.image_model.specs.Calls.{LeavesGuest, SameTables, AreSettled}
-use Rattle.qc_alloc.proofs.Resting.{after, rest_failed, through, through_on, through_failed, through_end, through_one, leaves_over, settled_over, as_moves, as_exactly, as_reads}
+use Rattle.qc_alloc.proofs.Resting.{after, rest_failed, through, through_on, through_failed, through_end, through_one, leaves_over, settled_over, as_moves, as_named, as_reads}
 use Rattle.qc_alloc.proofs.clusters.Clusters.settle.Goals as goal
 
 pub returns-in_err-rest-clause-moves : goal.returns-in_err-rest-clause-moves
-returns-in_err-rest-clause-moves g c s disks first exactly =
+returns-in_err-rest-clause-moves g c s disks first named =
     let a = allocator_view c.self.inside in
     let same : a ≡ c.args.self.now = c.self.view_is in
     let e = record a { pool = c.empty.new.self } in
@@ -20,7 +20,7 @@ returns-in_err-rest-clause-moves g c s disks first exactly =
     as_moves (after a a.pool.counted a.pool.from) e same empty (rest_failed c.rest.ensures.synced.call s disks first (c.rest.ensures.stays s disks first a.pool.prepared))
 
 pub returns-in_err-settle_blocks-clause-moves : goal.returns-in_err-settle_blocks-clause-moves
-returns-in_err-settle_blocks-clause-moves g c s disks first exactly =
+returns-in_err-settle_blocks-clause-moves g c s disks first named =
     let a = allocator_view c.self.inside in
     let same : a ≡ c.args.self.now = c.self.view_is in
     let e = record a { pool = c.empty.new.self } in
@@ -29,7 +29,7 @@ returns-in_err-settle_blocks-clause-moves g c s disks first exactly =
     let x = g.D.Outside.world c.args.depot.now in
     let y = g.D.Outside.world c.rest.new.depot in
     let z = g.D.Outside.world c.settle_blocks.new.depot in
-    let told = as_exactly x same exactly in
+    let told = as_named x same named in
     let call = c.rest.ensures.synced.call in
     let begun = through c.self.invariant.allocator call s disks first told (c.in_ok-rest.ensures.rests s disks (is_in a.pool.spoken) first a.pool.prepared told) in
     let goes : SettlesOn (after a a.pool.counted a.pool.from) y z = subst (λ (d : Allocator). SettlesOn d y z) empty c.settle_blocks.ensures.goes in
@@ -38,7 +38,7 @@ returns-in_err-settle_blocks-clause-moves g c s disks first exactly =
     as_moves (after a a.pool.counted a.pool.from) c.settle_blocks.new.self same (c.settle_blocks.ensures.same ∙ empty) (through_failed run on)
 
 pub returns-in_err-settle_blocks-clause-leaves : goal.returns-in_err-settle_blocks-clause-leaves
-returns-in_err-settle_blocks-clause-leaves g c s disks first exactly =
+returns-in_err-settle_blocks-clause-leaves g c s disks first named =
     let a = allocator_view c.self.inside in
     let same : a ≡ c.args.self.now = c.self.view_is in
     let e = record a { pool = c.empty.new.self } in
@@ -47,7 +47,7 @@ returns-in_err-settle_blocks-clause-leaves g c s disks first exactly =
     let x = g.D.Outside.world c.args.depot.now in
     let y = g.D.Outside.world c.rest.new.depot in
     let z = g.D.Outside.world c.settle_blocks.new.depot in
-    let told = as_exactly x same exactly in
+    let told = as_named x same named in
     let call = c.rest.ensures.synced.call in
     let begun = through c.self.invariant.allocator call s disks first told (c.in_ok-rest.ensures.rests s disks (is_in a.pool.spoken) first a.pool.prepared told) in
     let goes : SettlesOn (after a a.pool.counted a.pool.from) y z = subst (λ (d : Allocator). SettlesOn d y z) empty c.settle_blocks.ensures.goes in
@@ -59,7 +59,7 @@ returns-in_err-settle_blocks-clause-puts g c =
     rw (← file) (puts_err c.from_residual-in_err-settle_blocks.ensures.0 (puts_on c.in_ok-rest.ensures.synced.puts c.in_err-settle_blocks.ensures.puts))
 
 pub returns-in_err-rest-2-clause-moves : goal.returns-in_err-rest-2-clause-moves
-returns-in_err-rest-2-clause-moves g c s disks first exactly =
+returns-in_err-rest-2-clause-moves g c s disks first named =
     let a = allocator_view c.self.inside in
     let same : a ≡ c.args.self.now = c.self.view_is in
     let e = record a { pool = c.empty.new.self } in
@@ -68,7 +68,7 @@ returns-in_err-rest-2-clause-moves g c s disks first exactly =
     let x = g.D.Outside.world c.args.depot.now in
     let y = g.D.Outside.world c.rest.new.depot in
     let z = g.D.Outside.world c.settle_blocks.new.depot in
-    let told = as_exactly x same exactly in
+    let told = as_named x same named in
     let call = c.rest.ensures.synced.call in
     let begun = through c.self.invariant.allocator call s disks first told (c.in_ok-rest.ensures.rests s disks (is_in a.pool.spoken) first a.pool.prepared told) in
     let goes : SettlesOn (after a a.pool.counted a.pool.from) y z = subst (λ (d : Allocator). SettlesOn d y z) empty c.settle_blocks.ensures.goes in
@@ -78,7 +78,7 @@ returns-in_err-rest-2-clause-moves g c s disks first exactly =
     (through_end run on a.pool.counted a.pool.from c.rest-2.ensures.synced.call (sound _) (c.rest-2.ensures.stays s (y.seen a.file ∷ []) a.pool.prepared a.pool.prepared))
 
 pub returns-in_err-rest-2-clause-leaves : goal.returns-in_err-rest-2-clause-leaves
-returns-in_err-rest-2-clause-leaves g c s disks first exactly =
+returns-in_err-rest-2-clause-leaves g c s disks first named =
     let a = allocator_view c.self.inside in
     let same : a ≡ c.args.self.now = c.self.view_is in
     let e = record a { pool = c.empty.new.self } in
@@ -87,7 +87,7 @@ returns-in_err-rest-2-clause-leaves g c s disks first exactly =
     let x = g.D.Outside.world c.args.depot.now in
     let y = g.D.Outside.world c.rest.new.depot in
     let z = g.D.Outside.world c.settle_blocks.new.depot in
-    let told = as_exactly x same exactly in
+    let told = as_named x same named in
     let call = c.rest.ensures.synced.call in
     let begun = through c.self.invariant.allocator call s disks first told (c.in_ok-rest.ensures.rests s disks (is_in a.pool.spoken) first a.pool.prepared told) in
     let goes : SettlesOn (after a a.pool.counted a.pool.from) y z = subst (λ (d : Allocator). SettlesOn d y z) empty c.settle_blocks.ensures.goes in
@@ -100,7 +100,7 @@ returns-in_err-rest-2-clause-puts g c =
     rw (← file) (puts_err c.from_residual-in_err-rest-2.ensures.0 (puts_on (puts_on c.in_ok-rest.ensures.synced.puts c.in_ok-settle_blocks.ensures.puts) c.in_err-rest-2.ensures.synced.puts))
 
 pub returns-clause-moves : goal.returns-clause-moves
-returns-clause-moves g c s disks first exactly =
+returns-clause-moves g c s disks first named =
     let a = allocator_view c.self.inside in
     let same : a ≡ c.args.self.now = c.self.view_is in
     let e = record a { pool = c.empty.new.self } in
@@ -109,7 +109,7 @@ returns-clause-moves g c s disks first exactly =
     let x = g.D.Outside.world c.args.depot.now in
     let y = g.D.Outside.world c.rest.new.depot in
     let z = g.D.Outside.world c.settle_blocks.new.depot in
-    let told = as_exactly x same exactly in
+    let told = as_named x same named in
     let call = c.rest.ensures.synced.call in
     let begun = through c.self.invariant.allocator call s disks first told (c.in_ok-rest.ensures.rests s disks (is_in a.pool.spoken) first a.pool.prepared told) in
     let goes : SettlesOn (after a a.pool.counted a.pool.from) y z = subst (λ (d : Allocator). SettlesOn d y z) empty c.settle_blocks.ensures.goes in
@@ -124,7 +124,7 @@ returns-clause-moves g c s disks first exactly =
     (through_end run on q.counted q.from c.rest-2.ensures.synced.call (sound _) (c.rest-2.ensures.stays s (y.seen a.file ∷ []) a.pool.prepared a.pool.prepared))
 
 pub returns-clause-one : goal.returns-clause-one
-returns-clause-one g c s disks first exactly =
+returns-clause-one g c s disks first named =
     let a = allocator_view c.self.inside in
     let same : a ≡ c.args.self.now = c.self.view_is in
     let e = record a { pool = c.empty.new.self } in
@@ -133,7 +133,7 @@ returns-clause-one g c s disks first exactly =
     let x = g.D.Outside.world c.args.depot.now in
     let y = g.D.Outside.world c.rest.new.depot in
     let z = g.D.Outside.world c.settle_blocks.new.depot in
-    let told = as_exactly x same exactly in
+    let told = as_named x same named in
     let call = c.rest.ensures.synced.call in
     let begun = through c.self.invariant.allocator call s disks first told (c.in_ok-rest.ensures.rests s disks (is_in a.pool.spoken) first a.pool.prepared told) in
     let goes : SettlesOn (after a a.pool.counted a.pool.from) y z = subst (λ (d : Allocator). SettlesOn d y z) empty c.settle_blocks.ensures.goes in
@@ -150,7 +150,7 @@ returns-clause-one g c s disks first exactly =
     (through_one run on q.counted q.from c.rest-2.ensures.synced.call (sound _) (c.in_ok-rest-2.ensures.one s (y.seen a.file ∷ []) a.pool.prepared a.pool.prepared)))
 
 pub returns-clause-counts : goal.returns-clause-counts
-returns-clause-counts g c s disks first exactly =
+returns-clause-counts g c s disks first named =
     let a = allocator_view c.self.inside in
     let same : a ≡ c.args.self.now = c.self.view_is in
     let e = record a { pool = c.empty.new.self } in
@@ -159,7 +159,7 @@ returns-clause-counts g c s disks first exactly =
     let x = g.D.Outside.world c.args.depot.now in
     let y = g.D.Outside.world c.rest.new.depot in
     let z = g.D.Outside.world c.settle_blocks.new.depot in
-    let told = as_exactly x same exactly in
+    let told = as_named x same named in
     let call = c.rest.ensures.synced.call in
     let begun = through c.self.invariant.allocator call s disks first told (c.in_ok-rest.ensures.rests s disks (is_in a.pool.spoken) first a.pool.prepared told) in
     let b = after a a.pool.counted a.pool.from in
@@ -168,7 +168,7 @@ returns-clause-counts g c s disks first exactly =
     (λ al is. subst (λ (new : List ℕ). AreSettled s (is_in a.pool.spoken) new) (sym c.rest-2.ensures.synced.call.seen) (settled_over call begun all al is))
 
 pub returns-clause-leaves : goal.returns-clause-leaves
-returns-clause-leaves g c s disks first exactly =
+returns-clause-leaves g c s disks first named =
     let a = allocator_view c.self.inside in
     let same : a ≡ c.args.self.now = c.self.view_is in
     let e = record a { pool = c.empty.new.self } in
@@ -177,7 +177,7 @@ returns-clause-leaves g c s disks first exactly =
     let x = g.D.Outside.world c.args.depot.now in
     let y = g.D.Outside.world c.rest.new.depot in
     let z = g.D.Outside.world c.settle_blocks.new.depot in
-    let told = as_exactly x same exactly in
+    let told = as_named x same named in
     let call = c.rest.ensures.synced.call in
     let begun = through c.self.invariant.allocator call s disks first told (c.in_ok-rest.ensures.rests s disks (is_in a.pool.spoken) first a.pool.prepared told) in
     let goes : SettlesOn (after a a.pool.counted a.pool.from) y z = subst (λ (d : Allocator). SettlesOn d y z) empty c.settle_blocks.ensures.goes in

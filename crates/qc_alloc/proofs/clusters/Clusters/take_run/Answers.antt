@@ -11,7 +11,7 @@ use Rattle.qc_alloc.specs.Allocator.{Allocator}
 use Rattle.cluster_pool.specs.Pool.{Pool, each, HasNoRunOf, IsFirstRunOf}
 use Rattle.qc_alloc.specs.Inside.{allocator_view}
 use Rattle.qc_alloc.specs.Growing.{Raises, Grows}
-use Rattle.qc_alloc.proofs.Grown.{grows_none, grows_on, grows_stay, run_follows, puts_none, puts_next}
+use Rattle.qc_alloc.proofs.Grown.{grows_none, grows_on, grows_stay, run_follows, mends_none, mends_same, names_on, puts_none, puts_next}
 use Rattle.qc_alloc.proofs.Raising.{raises_none, raises_on}
 use Rattle.qc_alloc.proofs.Valid.{allocator_taken, takes_run}
 use Rattle.qc_alloc.proofs.clusters.Clusters.take_run.Goals as goal
@@ -33,6 +33,8 @@ loop-self-init g c = record {
   raises = raises_none c.args.self.now.pool;
   grows = grows_none c.args.self.now _ (g.met.D.Depot.sound _);
   puts = puts_none c.args.self.now.file _;
+  words = mends_none c.args.self.now _;
+  bound = omega arith;
   ready = refl;
   next = refl;
 }
@@ -45,6 +47,8 @@ loop-self-preserved g c =
       raises = raises_on c.args.self.now.pool l.pool c.prepare.new.self.pool c.loop-self.invariant.raises call.pool;
       grows = grows_on c.args.self.now l c.prepare.new.self _ (g.D.Outside.world c.loop-self.depot) _ c.loop-self.invariant.puts.calls.run call.puts.calls.run c.loop-self.invariant.raises c.loop-self.invariant.grows call.grows;
       puts = puts_next c.loop-self.invariant.puts (subst (λ (f : ℕ). Puts {T = Unit {0}} {E = Failed} f (g.D.Outside.world c.loop-self.depot) (g.D.Outside.world c.prepare.new.depot) (Ok tt)) c.loop-self.invariant.grows.file call.puts);
+      words = names_on c.args.self.now l c.prepare.new.self _ (g.D.Outside.world c.loop-self.depot) _ c.loop-self.invariant.puts.calls.run call.puts.calls.run c.loop-self.invariant.raises c.loop-self.invariant.grows call.grows call.words;
+      bound = omega (arith, c.loop-self.invariant.bound, call.most, c.loop-self-test.true, c.prepared.ensures, ap (λ (x : Allocator). x.pool.prepared) c.self-in-loop-self.view_is);
       ready = call.kept.0 ∙ c.loop-self.invariant.ready;
       next = call.kept.1 ∙ c.loop-self.invariant.next;
     }
@@ -66,6 +70,20 @@ returns-in_err-prepare-clause-failed g c =
     rw fails.1 (
       raises_on c.args.self.now.pool c.loop-self.self.pool c.prepare.new.self.pool c.loop-self.invariant.raises c.in_err-prepare.ensures.pool,
       c.in_err-prepare.ensures.kept.0 ∙ c.loop-self.invariant.ready,
+    )
+
+pub returns-in_err-prepare-clause-most : goal.returns-in_err-prepare-clause-most
+returns-in_err-prepare-clause-most g c first run =
+    let found = subst (λ (x : Allocator). IsFirstRunOf x.pool c.args.count c.in-Some.first) c.self.view_is c.in-Some.ensures.found in
+    omega (
+      arith,
+      run.least c.in-Some.first found.is,
+      found.least first run.is,
+      c.loop-self.invariant.bound,
+      c.in_err-prepare.ensures.most,
+      c.loop-self-test.true,
+      c.prepared.ensures,
+      ap (λ (x : Allocator). x.pool.prepared) c.self-in-loop-self.view_is,
     )
 
 pub returns-in_err-prepare-clause-grows : goal.returns-in_err-prepare-clause-grows
@@ -137,3 +155,21 @@ returns-clause-grows g c =
     (ap (λ (x : Pool). x.blocks) c.take_run.ensures.is) (ap (λ (x : Pool). x.prepared) c.take_run.ensures.is) in
     grows_on c.args.self.now l b _ world world c.loop-self.invariant.puts.calls.run (stay (only_file l.file) world) c.loop-self.invariant.raises c.loop-self.invariant.grows
     (subst (λ (x : Allocator). Grows x b world world) c.self-2.view_is stays)
+
+pub returns-clause-words : goal.returns-clause-words
+returns-clause-words g c =
+    let b : Allocator = record (allocator_view c.self-2.inside) { pool = c.take_run.new.self } in
+    mends_same c.args.self.now c.loop-self.self b _ _ (ap (λ (x : Pool). x.blocks) c.take_run.ensures.is ∙ ap (λ (x : Allocator). x.pool.blocks) c.self-2.view_is)
+    (ap (λ (x : Pool). x.prepared) c.take_run.ensures.is ∙ ap (λ (x : Allocator). x.pool.prepared) c.self-2.view_is) c.loop-self.invariant.words
+
+pub returns-clause-most : goal.returns-clause-most
+returns-clause-most g c first run =
+    let found = subst (λ (x : Allocator). IsFirstRunOf x.pool c.args.count c.in-Some.first) c.self.view_is c.in-Some.ensures.found in
+    omega (
+      arith,
+      run.least c.in-Some.first found.is,
+      found.least first run.is,
+      c.loop-self.invariant.bound,
+      ap (λ (x : Pool). x.prepared) c.take_run.ensures.is,
+      ap (λ (x : Allocator). x.pool.prepared) c.self-2.view_is,
+    )

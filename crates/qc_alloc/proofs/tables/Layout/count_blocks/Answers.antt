@@ -1,5 +1,6 @@
 use Rattle.std.proofs.Common.{◌≡◌, ℕ, ◌+◌, ◌*◌, ◌<◌, List, length, IsTrue, sym, subst, ◌∙◌, arith, rules}
 use Rattle.disk_model.proofs.Laws.{run_on}
+use Rattle.file_device.proofs.Laws.{quiet_on, quiet_stay}
 use Rattle.qc_layout.specs.Disks.{counts_in, refcount}
 use Rattle.qc_alloc.specs.Tables.{Notes, IsRow}
 use Rattle.qc_alloc.proofs.Layouts.{blocks_few}
@@ -24,7 +25,7 @@ read_blocks-requires-clause-row g c =
 
 pub returns-in_err-read_blocks-clause-reads : goal.returns-in_err-read_blocks-clause-reads
 returns-in_err-read_blocks-clause-reads g c =
-    reads_handed c.from_residual.result (reads_on c.loop-index.invariant.0 c.in_err-read_blocks.ensures.reads) c.from_residual.ensures.1
+    reads_handed c.from_residual.result (reads_on c.loop-index.invariant.0 c.loop-index.invariant.5 c.in_err-read_blocks.ensures.reads) c.from_residual.ensures.1
 
 pub loop-index-preserved : goal.loop-index-preserved
 loop-index-preserved g c =
@@ -56,6 +57,7 @@ loop-index-preserved g c =
       e.limit.1,
       λ told. counted_step self _ blocks start first index n c.max-index.result set past c.requires.layout c.requires.blocks below m c.neighbours-count.ensures.none (seen_back X inv.0 here told),
       omega (arith, row, m, below),
+      quiet_on inv.5 (e.reads.quiet (λ failed. cc)),
     )
 
 pub returns-clause-notes : goal.returns-clause-notes
@@ -68,4 +70,4 @@ returns-clause-notes g c told table began =
     subst P all ((inv.3 told).on table began)
 
 pub loop-index-init : goal.loop-index-init
-loop-index-init g c = search (rules, counted_none)
+loop-index-init g c = search (rules, counted_none, quiet_stay)

@@ -2,7 +2,7 @@ use Rattle.std.proofs.Common.{◌≡◌, ℕ, ◌*◌, List, length, min, max, B
 use Rattle.std.specs.Int.{div_ceil}
 use Rattle.std.proofs.Math.ListN.{length-replicate}
 use Rattle.disk_model.proofs.Laws.{run_on}
-use Rattle.file_device.proofs.Laws.{given}
+use Rattle.file_device.proofs.Laws.{given, quiet_on}
 use Rattle.qc_layout.specs.Disks.{counts_in, refcount}
 use Rattle.qc_alloc.specs.declared.refusals.ClusterRefusal.{ClusterRefusal}
 use Rattle.qc_alloc.specs.Opening.{rule_of}
@@ -14,17 +14,17 @@ use Rattle.qc_alloc.proofs.Reading.{reads_failed, reads_after, reads_on, reads_h
 use Rattle.qc_alloc.proofs.tables.Layout.read_counts.Goals as goal
 
 pub returns-in_err-length-clause-reads : goal.returns-in_err-length-clause-reads
-returns-in_err-length-clause-reads g c = reads_failed _ c.in_err-length.ensures.looks
+returns-in_err-length-clause-reads g c = reads_failed _ c.in_err-length.ensures.looks c.from_residual.ensures.1
 
 pub returns-in_err-new-clause-reads : goal.returns-in_err-new-clause-reads
-returns-in_err-new-clause-reads g c = reads_after _ c.in_ok-length.ensures.looks.reads (not_memory _ c.from_residual-in_err-new.ensures.1)
+returns-in_err-new-clause-reads g c = reads_after _ c.in_ok-length.ensures.looks.reads c.in_ok-length.ensures.looks.calls.quiet (not_memory _ c.from_residual-in_err-new.ensures.1)
 
 pub returns-in_err-buffer-clause-reads : goal.returns-in_err-buffer-clause-reads
-returns-in_err-buffer-clause-reads g c = reads_after _ c.in_ok-length.ensures.looks.reads (not_memory _ c.from_residual-in_err-buffer.ensures.1)
+returns-in_err-buffer-clause-reads g c = reads_after _ c.in_ok-length.ensures.looks.reads c.in_ok-length.ensures.looks.calls.quiet (not_memory _ c.from_residual-in_err-buffer.ensures.1)
 
 pub returns-in_err-count_blocks-clause-reads : goal.returns-in_err-count_blocks-clause-reads
 returns-in_err-count_blocks-clause-reads g c =
-    reads_handed c.from_residual-in_err-count_blocks.result (reads_on c.in_ok-length.ensures.looks.reads c.in_err-count_blocks.ensures.reads) c.from_residual-in_err-count_blocks.ensures.1
+    reads_handed c.from_residual-in_err-count_blocks.result (reads_on c.in_ok-length.ensures.looks.reads c.in_ok-length.ensures.looks.calls.quiet c.in_err-count_blocks.ensures.reads) c.from_residual-in_err-count_blocks.ensures.1
 
 pub returns-in_err-count_blocks-clause-why : goal.returns-in_err-count_blocks-clause-why
 returns-in_err-count_blocks-clause-why g c =
@@ -61,7 +61,7 @@ pub count_blocks-requires-clause-limit : goal.count_blocks-requires-clause-limit
 count_blocks-requires-clause-limit g c = sym (ap (λ (set : List Bool). length set) c.in_ok-new.ensures ∙ length-replicate {A = Bool} c.min-limit.result false)
 
 pub returns-clause-reads : goal.returns-clause-reads
-returns-clause-reads g c = reads_after _ (run_on c.in_ok-length.ensures.looks.reads c.in_ok-count_blocks.ensures.reads.run) (λ failed. absurd (cc))
+returns-clause-reads g c = reads_after _ (run_on c.in_ok-length.ensures.looks.reads c.in_ok-count_blocks.ensures.reads.run) (quiet_on c.in_ok-length.ensures.looks.calls.quiet (c.in_ok-count_blocks.ensures.reads.quiet (λ failed. cc))) (λ failed. absurd (cc))
 
 pub returns-clause-counts : goal.returns-clause-counts
 returns-clause-counts g c told table =

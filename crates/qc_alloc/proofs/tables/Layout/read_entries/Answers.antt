@@ -9,10 +9,10 @@ use Rattle.qc_alloc.proofs.Reading.{reads_failed, reads_after, not_failed}
 use Rattle.qc_alloc.proofs.tables.Layout.read_entries.Goals as goal
 
 pub returns-in_err-read-clause-reads : goal.returns-in_err-read-clause-reads
-returns-in_err-read-clause-reads g c = reads_failed _ c.in_err-read.ensures.looks
+returns-in_err-read-clause-reads g c = reads_failed _ c.in_err-read.ensures.looks c.from_residual.ensures.1
 
 pub returns-clause-reads : goal.returns-clause-reads
-returns-clause-reads g c = reads_after c.test_entries.result c.in_ok-read.ensures.looks.reads (not_failed c.test_entries.result c.test_entries.ensures.rule)
+returns-clause-reads g c = reads_after c.test_entries.result c.in_ok-read.ensures.looks.reads c.in_ok-read.ensures.looks.calls.quiet (not_failed c.test_entries.result c.test_entries.ensures.rule)
 
 pub returns-clause-words : goal.returns-clause-words
 returns-clause-words g c before told =

@@ -1,5 +1,6 @@
 use Rattle.std.proofs.Common.{◌≢◌, ℕ, ◌≤◌, List, length, None, IsTrue, rules}
 use Rattle.disk_model.proofs.Laws.{run_on}
+use Rattle.file_device.proofs.Laws.{quiet_on}
 use Rattle.qc_alloc.specs.declared.refusals.ClusterRefusal.{ClusterRefusal}
 use Rattle.qc_alloc.specs.Opening.{rule_of}
 use Rattle.qc_alloc.specs.Tables.{AreWords, IsFirstBad}
@@ -17,6 +18,7 @@ loop-self-preserved g c =
     let Y : List ℕ → Type 0 = λ file. AreWords c.args.self file c.loop-self.blocks.items in (
       record {
         run = run_on had.run e.reads.run;
+        quiet = quiet_on had.quiet (e.reads.quiet (λ failed. cc));
         few = few;
         are = e.blocks had.are;
         words = seen_back X had.run (e.words (seen_on Y had.run had.words));
@@ -38,7 +40,7 @@ returns-in_err-read_entries-clause-refused g c =
 
 pub returns-in_err-read_entries-clause-reads : goal.returns-in_err-read_entries-clause-reads
 returns-in_err-read_entries-clause-reads g c =
-    reads_handed c.from_residual.result (reads_on c.loop-self.invariant.0.run c.in_err-read_entries.ensures.reads) c.from_residual.ensures.1
+    reads_handed c.from_residual.result (reads_on c.loop-self.invariant.0.run c.loop-self.invariant.0.quiet c.in_err-read_entries.ensures.reads) c.from_residual.ensures.1
 
 pub returns-in_err-read_entries-clause-words : goal.returns-in_err-read_entries-clause-words
 returns-in_err-read_entries-clause-words g c =
