@@ -1,0 +1,11 @@
+pub mod Clusters
+pub mod Going
+pub mod Joining
+pub mod Looking
+pub mod More
+pub mod Numbers
+pub mod Pieces
+pub mod Places
+pub mod Storing
+pub mod Tallies
+pub mod Words
