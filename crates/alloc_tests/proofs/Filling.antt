@@ -1,27 +1,28 @@
 -- One cluster of the guest's is stored in the place of a hole.
-use Rattle.std.proofs.Common.{◌≡◌, ◌⊎◌, inl, inr, ⊎_elim, ℕ, ◌+◌, ◌-◌, ◌*◌, ◌%◌, ◌^◌, ◌<◌, ◌≤◌, List, [], ◌∷◌, length, IsTrue, refl, sym, ◌∙◌, ap, subst, arith}
-use Rattle.std.specs.List.{All}
+use Rattle.std.proofs.Common.{◌≡◌, ◌⊎◌, inl, inr, ⊎_elim, ℕ, zero, suc, ◌+◌, ◌-◌, ◌*◌, ◌%◌, ◌^◌, ◌<◌, ◌≤◌, List, [], ◌∷◌, length, Bool, true, not, ◌&&◌, ◌||◌, IsTrue, refl, sym, ◌∙◌, ap, subst, arith}
 use Rattle.std.specs.Int.{to_be_bytes, w64}
-use Rattle.std.proofs.lemmas.Bool.{cases_eq}
+use Rattle.std.proofs.lemmas.Bool.{cases_eq, false≢true}
 use Rattle.std.proofs.lemmas.List.{append-nil}
 use Rattle.std.proofs.Math.Nat.{mul_assoc, mul_comm, mul-le-mul, pow-le-pow_right}
 use Rattle.disk_model.specs.Files.{byte, u64_at}
 use Rattle.disk_model.specs.World.{World, Runs, writes_of, IsSound, EachSince}
 use Rattle.disk_model.proofs.Laws.{told_at, number-append, length-to_be_bytes}
+use Rattle.bitmap_model.specs.Granules.{is_in}
 use Rattle.qc_layout.specs.Disks.{place_of}
-use Rattle.image_model.specs.Clusters.{Shape, size, place, Head, IsLink, IsSafe, IsStanding, Moves, Reads, guest}
+use Rattle.image_model.specs.Clusters.{Shape, size, place, Head, IsLink, IsSafe, IsStanding, Moves, Reads, host, pick, guest}
 use Rattle.image_model.specs.Calls.{Told, IsTakeable, LeavesGuest, SameTables, SameBlocks}
-use Rattle.image_model.specs.Runs.{IsFilling, IsLinking, AreLinks, LeavesRest, IsStored}
+use Rattle.image_model.specs.Runs.{IsFilling, IsLinking, AreLinks, LeavesRest, HasData, IsStored}
 use Rattle.image_steps.proofs.Good.{more_safe}
-use Rattle.image_steps.proofs.Places.{place_next}
+use Rattle.image_steps.proofs.Places.{place_next, place_some}
 use Rattle.image_steps.proofs.Standing.{moves_on, stands_less}
 use Rattle.image_steps.proofs.Storing.{linking_on, rest_after}
-use Rattle.cluster_pool.specs.Pool.{Pool, reach, block_at, IsReady, AreRising, HasTaken}
-use Rattle.cluster_pool.specs.Sets.{with_member}
-use Rattle.qc_alloc.specs.Allocator.{Allocator, IsAllocator, IsOf, IsHalfAdded, HasTable, Allocates}
-use Rattle.qc_alloc.specs.Growing.{Grows}
+use Rattle.cluster_pool.specs.Pool.{Pool, IsPool, block_at, is_own_block, IsReady, HasTaken, given_back}
+use Rattle.cluster_pool.specs.Sets.{with_member, without_member}
+use Rattle.cluster_pool.proofs.Words.{is_in-with, is_in-with_other, is_in-without, is_in-without_other}
+use Rattle.qc_alloc.specs.Allocator.{Allocator, IsAllocator, IsOf, IsHalfAdded, HasTable, Allocates, HandsOut}
+use Rattle.qc_alloc.specs.Growing.{Raises, Grows}
 use Rattle.qc_alloc.specs.Laws.{CanBeUsed, PreparedIsClean}
-use Rattle.alloc_tests.specs.Caller.{IsHole, StandsFrom}
+use Rattle.alloc_tests.specs.Caller.{IsHole, IsFull, StandsFrom}
 
 -- ---- numbers
 
@@ -48,6 +49,10 @@ same_allocator : (a b : Allocator) → a.file ≡ b.file → a.table ≡ b.table
 same_allocator a b file table pool =
     ap (λ (f : ℕ). parts f a.table a.pool) file ∙ ap (λ (t : ℕ). parts b.file t a.pool) table ∙ ap (λ (p : Pool). parts b.file b.table p) pool
 
+shown : (at : ℕ → ℕ) (host place t : ℕ) → host ≡ place → 0 < place → pick host (at (host + t)) ≡ at (place + t)
+shown at zero place t same some = absurd (omega (arith, same, some))
+shown at (suc h) place t same some = ap (λ (n : ℕ). at (n + t)) same
+
 -- ---- before a cluster is taken
 
 module _ {s : Shape} {disks : List (List ℕ)} {first f : ℕ} {a b : Allocator} {x y : World} (at : a.file ≡ f) (grows : Grows a b x y) where
@@ -57,26 +62,72 @@ module _ {s : Shape} {disks : List (List ℕ)} {first f : ℕ} {a b : Allocator}
   pub grown_leaves : Reads f (Allocates s disks first a) (LeavesGuest s) x y
   grown_leaves = subst (λ (g : ℕ). Reads g (Allocates s disks first a) (LeavesGuest s) x y) at (grows.leaves s disks first)
 
-  pub grown_more : (e : List ℕ) → Moves f (IsSafe s (e ∷ disks)) (Allocates s disks first a) (StandsFrom s (e ∷ disks) b) x y
-  grown_more e = record {
+  pub grown_more : HandsOut first a → (e : List ℕ) → Moves f (IsSafe s (e ∷ disks)) (Allocates s disks first a) (StandsFrom s (e ∷ disks) b) x y
+  grown_more hands e = record {
     since = λ al k low high c left. more_safe s disks e c (grown.since al k low high c left);
     stands = λ al. let next = grown.stands al in (
       first,
-      record {
-        is = next.is;
-        stands = λ told. stands_less e (omega arith) (next.stands told).order next.stands told;
-        table = next.table;
-        ready = next.ready;
-        fresh = next.fresh;
-      },
+      grows.hands first hands,
+      record { is = next.is; stands = λ told. stands_less e (omega arith) (next.stands told).order next.stands told; table = next.table },
     );
   }
+
+-- ---- which clusters are spoken for
+
+-- clusters are spoken for that were so before, that are blocks, or of which X holds
+abbrev pub SpeaksFor : Pool → Pool → (ℕ → Type 0) → Type 0
+SpeaksFor p q X = (k : ℕ) → IsTrue (is_in q.spoken k) → IsTrue (is_in p.spoken k) ⊎ (IsTrue (is_own_block q k) ⊎ X k)
+
+spoken_since : (p o w q : Bool) → q ≡ (p || (o && not w)) → q ≡ true → (p ≡ true) ⊎ (o ≡ true)
+spoken_since p o w q is now = grind (arith, is, now)
+
+pub speaks_raised : (p q : Pool) (X : ℕ → Type 0) → Raises p q → SpeaksFor p q X
+speaks_raised p q X raises k now = ⊎_elim (λ was. inl was) (λ own. inr (inl own)) (spoken_since _ (is_own_block q k) (is_own_block p k) _ (raises.spoken k) now)
+
+pub speaks_taken : (p q r : Pool) (X : ℕ → Type 0) (k : ℕ) → Raises p q → HasTaken q r k → X k → SpeaksFor p r X
+speaks_taken p q r X k raises taken full m now = elim (cases_eq m k) [
+  | inl same ↦ inr (inr (subst X (sym same) full))
+  | inr other ↦
+      let before : is_in r.spoken m ≡ is_in q.spoken m = ap (λ (x : Pool). is_in x.spoken m) taken.is ∙ is_in-with_other q.spoken k m other in
+      let own : is_own_block r m ≡ is_own_block q m = ap (λ (x : Pool). is_own_block x m) taken.is in
+      ⊎_elim (λ was. inl was) (λ rest. inr (⊎_elim (λ is. inl (own ∙ is)) (λ is. inr is) rest)) (speaks_raised p q X raises m (sym before ∙ now))
+]
+
+pub speaks_given : (p q r t : Pool) (X : ℕ → Type 0) (k : ℕ) → Raises p q → HasTaken q r k → t ≡ given_back r k → SpeaksFor p t X
+speaks_given p q r t X k raises taken given m now = elim (cases_eq m k) [
+  | inl same ↦ absurd (false≢true (sym (ap (λ (x : Pool). is_in x.spoken m) given ∙ ap (is_in (without_member r.spoken k)) same ∙ is_in-without r.spoken k) ∙ now))
+  | inr other ↦
+      let before : is_in t.spoken m ≡ is_in q.spoken m =
+      ap (λ (x : Pool). is_in x.spoken m) given ∙ is_in-without_other r.spoken k m other ∙ ap (λ (x : Pool). is_in x.spoken m) taken.is ∙ is_in-with_other q.spoken k m other in
+      let own : is_own_block t m ≡ is_own_block q m = ap (λ (x : Pool). is_own_block x m) given ∙ ap (λ (x : Pool). is_own_block x m) taken.is in
+      ⊎_elim (λ was. inl was) (λ rest. inr (⊎_elim (λ is. inl (own ∙ is)) (λ is. inr is) rest)) (speaks_raised p q X raises m (sym before ∙ now))
+]
+
+pub taken_spoken : (q r : Pool) (k : ℕ) → IsPool q → IsReady q k → HasTaken q r k → IsTrue (is_in r.spoken k)
+taken_spoken q r k is ready taken = ap (λ (x : Pool). is_in x.spoken k) taken.is ∙ is_in-with q.spoken k (omega (arith, ready.reach, is.spoken))
+
+-- a cluster that is given back changes nothing else
+pub given_stands : {s : Shape} {disks : List (List ℕ)} {w : World} (a b : Allocator) (k : ℕ) → b ≡ record a { pool = given_back a.pool k } → StandsFrom s disks a w → StandsFrom s disks b w
+given_stands {s} {disks} {w} a b k same stands =
+    let al = stands.2 in
+    subst (λ (x : Allocator). StandsFrom s disks x w) (sym same) (
+      stands.0,
+      record { ready = stands.1.ready; fresh = stands.1.fresh },
+      record {
+        is = record { shape = al.is.shape; table = al.is.table; cluster = al.is.cluster; blocks = al.is.blocks };
+        stands = al.stands;
+        table = λ told i inside. ⊎_elim
+            (λ (at : u64_at (w.seen a.file) (s.counts + 8 * i) ≡ block_at a.pool i). inl at)
+            (λ (half : IsHalfAdded s a i (w.seen a.file)). inr (record { missing = half.missing; counts = half.counts; word = half.word }))
+            (al.table told i inside);
+      },
+    )
 
 -- ---- a cluster is taken and filled
 
 module _ {s : Shape} {disks : List (List ℕ)} {first q i j k f spot at : ℕ} {words : List ℕ} (bytes : List ℕ) {a0 a1 a2 : Allocator} {w0 w1 : World} (file0 : a0.file ≡ f) (grows : Grows a0 a1 w0 w1) (run : Runs (writes_of a0.file) w0 w1)
     (is : IsAllocator a1) (taken : HasTaken a1.pool a2.pool k) (is_ready : IsReady a1.pool k) (same : (a2.file ≡ a1.file) × (a2.table ≡ a1.table)) (clean : PreparedIsClean)
-    (at_is : at ≡ place_of a1.pool.bits k) (low : at ≤ 2251799813685248) (long : length bytes ≡ 2 ^ a1.pool.bits) (words_are : words ≡ to_be_bytes w64 (at + 9223372036854775808)) (hole : IsHole s q i j spot f w0) (al : Allocates s disks first a0 w0) where
+    (at_is : at ≡ place_of a1.pool.bits k) (low : at ≤ 2251799813685248) (long : length bytes ≡ 2 ^ a1.pool.bits) (words_are : words ≡ to_be_bytes w64 (at + 9223372036854775808)) (hole : IsHole s q i j spot f w0) (out : (first ≤ k) × HandsOut (k + 1) a2) (al : Allocates s disks first a0 w0) where
   file1 : a1.file ≡ f
   file1 = grows.file ∙ file0
 
@@ -86,14 +137,11 @@ module _ {s : Shape} {disks : List (List ℕ)} {first q i j k f spot at : ℕ} {
   stands1 : IsStanding s disks first a1.pool.prepared f w1
   stands1 = subst (λ (g : ℕ). IsStanding s disks first a1.pool.prepared g w1) file1 al1.stands
 
-  from : first ≤ k
-  from = let all = subst (λ (ks : List ℕ). All (λ m. first ≤ m) ks) taken.first al1.ready in all 0 0 (omega arith)
-
   to : k + 1 ≤ a1.pool.prepared
   to = omega (arith, is_ready.below, is.pool.order)
 
   used : IsTrue w1.tells → CanBeUsed s k f w1
-  used told = subst (λ (g : ℕ). CanBeUsed s k g w1) file1 (clean s disks first a1 w1 k is al1 told from (omega (arith, to)) is_ready.linked is_ready.differs)
+  used told = subst (λ (g : ℕ). CanBeUsed s k g w1) file1 (clean s disks first a1 w1 k is al1 told out.0 (omega (arith, to)) is_ready.linked is_ready.differs)
 
   some : IsTrue w1.tells → 0 < k
   some told = elim (cases_eq k 0) [
@@ -110,7 +158,7 @@ module _ {s : Shape} {disks : List (List ℕ)} {first q i j k f spot at : ℕ} {
     some = some told;
     low = omega (arith, at_place);
     high = omega (arith, at_place, place_next s k, long, al1.is.cluster);
-    from = from;
+    from = out.0;
     to = to;
     takeable = λ m m_in told. let one : k ≡ k + m = omega (arith, m_in) in subst (λ (n : ℕ). IsTakeable s n (w1.seen f)) one (used told).takeable;
   }
@@ -145,8 +193,6 @@ module _ {s : Shape} {disks : List (List ℕ)} {first q i j k f spot at : ℕ} {
         (λ (at : u64_at (w2.seen a1.file) (s.counts + 8 * x) ≡ block_at a1.pool x). inl at)
         (λ (half : IsHalfAdded s a1 x (w2.seen a1.file)). inr (record { missing = half.missing; counts = half.counts; word = half.word }))
         (subst (λ (g : ℕ). HasTable s a1 (w2.seen g)) (sym file1) (table told) x x_in);
-    ready = let rising : AreRising (k ∷ taken.rest) = subst AreRising taken.first is.pool.rising in (λ x d x_in. let above = rising.0 x d x_in in omega (arith, above));
-    fresh = omega (arith, is_ready.below);
   }
 
   is_next : next ≡ a2
@@ -175,6 +221,7 @@ module _ {s : Shape} {disks : List (List ℕ)} {first q i j k f spot at : ℕ} {
     pub filled_stands : StandsFrom s (w2.seen f ∷ disks) a2 w2
     filled_stands = (
       k + 1,
+      out.1,
       subst (λ (d : Allocator). Allocates s (w2.seen f ∷ disks) (k + 1) d w2) is_next
           (allocates_next (λ told. (wrote (told1 told)).stands stands1 told)
           (λ told x x_in.
@@ -202,3 +249,25 @@ module _ {s : Shape} {disks : List (List ℕ)} {first q i j k f spot at : ℕ} {
         let slot : j + 0 ≡ j = omega arith in
         let there : place s (k + 0) + t - at ≡ t = omega (arith, here) in
         ap (λ (n : ℕ). guest s (w2.seen f) i n t) (sym slot) ∙ shows.inside t t_in (omega (arith, here)) (omega (arith, here, long, al1.is.cluster, t_in)) ∙ ap (λ (n : ℕ). byte bytes n) there
+
+    -- the cluster has the bytes, where the data was written
+    pub filled_full : ((s : Shape) (disks : List (List ℕ)) (first last k n q i j : ℕ) → IsFilling s first last k n at (length bytes) f w1 → IsLinking s (k + n) k n q i j spot f words w1
+        → Reads f (IsStanding s disks first last f) (λ old new. HasData s k n at bytes new) w1 w2) → IsTrue w0.tells → IsFull s k bytes (w2.seen f)
+    filled_full held told t t_in =
+        let told1 : IsTrue w1.tells = subst IsTrue (sym run.goes.tells) told in
+        let there_is = held s disks first a1.pool.prepared k 1 q i j (filling told1) (linking told1) stands1 told1 in
+        let here : place s (k + 0) ≡ place s k = ap (λ (n : ℕ). place s n) (omega arith) in
+        let there : place s (k + 0) + t - at ≡ t = omega (arith, here, at_place) in
+        ap (λ (n : ℕ). byte (w2.seen f) (n + t)) (sym here) ∙ there_is.inside 0 t (omega arith) t_in (omega (arith, here, at_place)) (omega (arith, here, at_place, long, al1.is.cluster, t_in)) ∙ ap (λ (n : ℕ). byte bytes n) there
+
+    -- and where the guest's cluster is stored there
+    pub filled_stored : ((s : Shape) (disks : List (List ℕ)) (first last k n q i j : ℕ) → IsFilling s first last k n at (length bytes) f w1 → IsLinking s (k + n) k n q i j spot f words w1
+        → Reads f (IsStanding s disks first last f) (λ old new. (m : ℕ) → m < n → IsStored s i (j + m) (k + m) (u64_at words (8 * m)) at bytes new) w1 w2)
+        → IsTrue w0.tells → IsFull s k bytes (w2.seen f)
+    filled_stored stored told t t_in =
+        let told1 : IsTrue w1.tells = subst IsTrue (sym run.goes.tells) told in
+        let is = stored s disks first a1.pool.prepared k 1 q i j (filling told1) (linking told1) stands1 told1 0 (omega arith) in
+        let here : host s (w2.seen f) i (j + 0) ≡ place s k = is.host_is ∙ ap (λ (n : ℕ). place s n) (omega arith) in
+        let slot : j + 0 ≡ j = omega arith in
+        let host_at : host s (w2.seen f) i j ≡ place s k = ap (host s (w2.seen f) i) (sym slot) ∙ here in
+        sym (shown (byte (w2.seen f)) (host s (w2.seen f) i j) (place s k) t host_at (place_some s k al1.is.shape.some (some told1))) ∙ filled_shows stored told t t_in

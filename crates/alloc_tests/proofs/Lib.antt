@@ -1,2 +1,5 @@
 pub mod Filling
 pub mod OnFile
+mod Dropped
+mod Begun
+mod Stored

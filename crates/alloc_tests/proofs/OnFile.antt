@@ -1,25 +1,17 @@
 -- What calls on the file of an image leave of what its next call is given.
-use Rattle.std.proofs.Common.{◌≡◌, ◌≢◌, ℕ, ◌*◌, ◌^◌, ◌<◌, ◌≤◌, List, length, IsTrue, Result, Ok, Err, refl, sym, ◌∙◌, ap, subst, arith}
+use Rattle.std.proofs.Common.{◌≡◌, ◌≢◌, ℕ, ◌*◌, ◌^◌, ◌<◌, ◌≤◌, Result, Ok, Err, refl, sym, subst, arith}
 use Rattle.std.proofs.Math.Nat.{mul-le-mul, pow-le-pow_right}
-use Rattle.disk_model.specs.Files.{reading}
-use Rattle.disk_model.specs.World.{World}
+use Rattle.disk_model.specs.World.{World, Runs, reads_of}
 use Rattle.disk_model.specs.declared.depot.WriteRefusal.{WriteRefusal}
 use Rattle.disk_model.specs.declared.depot.WriteRefusal.TheVariants as refusals
-use Rattle.disk_model.proofs.Laws.{reading_all}
-use Rattle.file_device.specs.File.{file_of, Gives}
-use Rattle.file_device.specs.Calls.{Looks, Puts}
-use Rattle.file_device.proofs.Laws.{gives_on}
+use Rattle.file_device.specs.Calls.{Puts}
 use Rattle.qc_layout.specs.declared.header.Header.{Header}
-use Rattle.qc_layout.specs.declared.header.Part.{Part}
 use Rattle.qc_layout.specs.Disks.{place_of}
-use Rattle.qc_layout.specs.Spelling.{Spells}
 use Rattle.qc_alloc.specs.Allocator.{Allocator, IsAllocator}
-use Rattle.qc_alloc.specs.Opening.{IsRead}
+use Rattle.image_header.specs.Headers.{IsRead}
+use Rattle.qc_alloc.proofs.Reading.{seen_on}
 
 -- ---- the file is still one that calls may be made on
-
-pub given_looks : {T E : Type 0} {f g : ℕ} {a b : World} {result : Result T E} → Looks f a b result → g < a.given → g < b.given
-given_looks looks below = let more = looks.calls.run.goes.given in omega (arith, more, below)
 
 pub given_puts_all : {T E : Type 0} {f : ℕ} {a b : World} {result : Result T E} → Puts f a b result → a.given ≤ b.given
 given_puts_all puts = puts.calls.run.goes.given
@@ -30,22 +22,9 @@ given_puts (Ok value) kept puts below = let more = (puts (λ same. cc)).calls.ru
 given_puts (Err refusals.Failed) kept puts below = let more = (puts (λ same. cc)).calls.run.goes.given in omega (arith, more, below)
 given_puts {g = g} (Err refusals.NoRoom) kept puts below = subst (λ (w : World). g < w.given) (sym (kept refl).1) below
 
--- ---- its bytes
-
-pub still_gives : {T E : Type 0} {f n : ℕ} {a b : World} {result : Result T E} → Looks f a b result → Gives (file_of a f) (λ c. n ≡ length c) → Gives (file_of b f) (λ c. n ≡ length c)
-still_gives {n = n} looks gives = gives_on (λ c. n ≡ length c) looks gives
-
--- what was read of all of it is what reads give
-pub whole_file : {T E : Type 0} {f n m : ℕ} {a b : World} {out : List ℕ} {result : Result T E} → Looks f a b result → m ≡ n
-    → Gives (file_of a f) (λ c. n ≡ length c) → Gives (file_of a f) (λ c. out ≡ reading c 0 m) → IsTrue b.tells → b.seen f ≡ out
-unfolding file_of
-whole_file {f = f} {n = n} {m = m} {b = b} {out = out} looks same long bytes told =
-    let all = gives_on (λ c. n ≡ length c) looks long told in
-    let read = gives_on (λ c. out ≡ reading c 0 m) looks bytes told in
-    sym (read ∙ reading_all (b.seen f) m (same ∙ all))
-
-pub is_read : {h : Header} {f : ℕ} {w : World} {bytes : List ℕ} {part : Part} → Spells part bytes h → (IsTrue w.tells → w.seen f ≡ bytes) → IsRead h f w
-is_read {bytes = bytes} {part = part} spells told = record { bytes = bytes; part = part; spells = spells; told = told }
+-- calls that read it leave it as it was read
+pub read_on : {h : Header} {f : ℕ} {a b : World} → Runs (reads_of f) a b → IsRead h f a → IsRead h f b
+read_on {h} {f} run is = record { bytes = is.bytes; part = is.part; spells = is.spells; told = seen_on (λ c. c ≡ is.bytes) run is.told }
 
 -- ---- numbers
 

@@ -1,16 +1,21 @@
 -- What a caller of the allocator needs of a hole, and has afterwards.
-use Rattle.std.specs.Prelude.{ℕ, List}
+use Rattle.std.specs.Prelude.{◌≡◌, ℕ, ◌+◌, ◌<◌, List}
+use Rattle.disk_model.specs.Files.{byte}
 use Rattle.disk_model.specs.World.{World}
-use Rattle.image_model.specs.Clusters.{Shape}
+use Rattle.image_model.specs.Clusters.{Shape, size, place}
 use Rattle.image_model.specs.Calls.{Told}
 use Rattle.image_model.specs.Runs.{IsSlots, AreOpen}
-use Rattle.qc_alloc.specs.Allocator.{Allocator, Allocates}
+use Rattle.qc_alloc.specs.Allocator.{Allocator, Allocates, HandsOut}
 
 -- entry j of the guest's table i lies here, in cluster q, and names nothing
 pub record IsHole (s : Shape) (q i j spot f : ℕ) (w : World) : Type 0 where
   pub slots : IsSlots s q i j 1 spot
   pub opened : Told (AreOpen s q i j 1) f w
 
--- the image stands, and the allocator knows it
+-- cluster k has these bytes
+abbrev pub IsFull : Shape → ℕ → List ℕ → List ℕ → Type 0
+IsFull s k bytes file = (t : ℕ) → t < size s → byte file (place s k + t) ≡ byte bytes t
+
+-- the image stands, the allocator knows it, and hands out clusters that are ready
 abbrev pub StandsFrom : Shape → List (List ℕ) → Allocator → World → Type 0
-StandsFrom s disks a w = (first : ℕ) × Allocates s disks first a w
+StandsFrom s disks a w = (first : ℕ) × HandsOut first a × Allocates s disks first a w

@@ -1,1 +1,3 @@
 pub mod Caller
+pub mod Opening
+pub mod Storing

@@ -2,14 +2,13 @@
 
 ghost use Rattle.std.specs.Prelude.{◌≡◌, ◌^◌, ◌<◌, ◌≤◌, length, IfOk, OnOk, IsTrue};
 ghost use Rattle.disk_model.specs.World.{World};
-ghost use Rattle.file_device.specs.File.{file_of, Gives};
-ghost use Rattle.qc_alloc.specs.Opening.{IsRead};
+ghost use Rattle.image_header.specs.Headers.{IsRead};
 
 use backup_file::{create_source, valid_form};
 use disk_model::{Depot, FileNo};
-use file_device::{read, size};
+use image_header::read_image_header;
 use qc_alloc::Clusters;
-use qc_layout::{Header, Part, read_header};
+use qc_layout::{Header, Part};
 use std::alloc::Global;
 use std::test::Fail;
 
@@ -41,73 +40,25 @@ pub(crate) fn found<D: Depot>(depot: &mut D) -> Result<FileNo, Fail>
     }
 }
 
-/// No file of these tests is longer.
-const LONGEST: u64 = 1 << 30;
-
-// How many bytes the file has.
-#[tactic(auto, using(crate::proofs::OnFile::given_looks, crate::proofs::OnFile::still_gives))]
-fn length_of<D: Depot>(depot: &mut D, file: FileNo) -> Result<u64, Fail>
-    requires given { file.0 < (D.world depot.old).given }
-    ensures given { file.0 < (D.world depot.new).given }
-    ensures most { IfOk result (λ n. n ≤ 2 ^ 30) }
-    ensures length { IfOk result (λ n. Gives (file_of (D.world depot.new) file.0) (λ c. n ≡ length c)) }
-{
-    match size(depot, file) {
-        Ok(long) if long <= LONGEST => Ok(long),
-        Ok(_) => Err("too long".into()),
-        Err(_) => Err("no size".into()),
-    }
-}
-
-// Reads all bytes of the file, which are so many.
-#[tactic(auto, using(crate::proofs::OnFile::given_looks, crate::proofs::OnFile::whole_file))]
-fn read_whole<D: Depot>(
+/// The image's header.
+pub(crate) fn header_of<D: Depot>(
+    alloc: Global,
     depot: &mut D,
     file: FileNo,
-    long: u64,
-    bytes: &mut [u8],
-) -> Result<(), Fail>
-    requires given { file.0 < (D.world depot.old).given }
-    requires most { long ≤ 2 ^ 30 }
-    requires same { length bytes.old ≡ long }
-    requires long { Gives (file_of (D.world depot.old) file.0) (λ c. long ≡ length c) }
-    ensures given { file.0 < (D.world depot.new).given }
-    ensures bytes { OnOk result (IsTrue (D.world depot.new).tells → (D.world depot.new).seen file.0 ≡ bytes.new) }
-{
-    match read(depot, file, 0, bytes) {
-        Ok(()) => Ok(()),
-        Err(_) => Err("not read".into()),
-    }
-}
-
-// All bytes of the file.
-fn bytes_of<D: Depot>(alloc: Global, depot: &mut D, file: FileNo) -> Result<Vec<u8>, Fail>
-    requires given { file.0 < (D.world depot.old).given }
-    ensures given { file.0 < (D.world depot.new).given }
-    ensures bytes { IfOk result (λ bytes. IsTrue (D.world depot.new).tells → (D.world depot.new).seen file.0 ≡ bytes.items) }
-{
-    let long = length_of(depot, file)?;
-    let mut bytes = vec![in alloc; 0u8; long as usize]?;
-    read_whole(depot, file, long, &mut bytes)?;
-    Ok(bytes)
-}
-
-// The image's header, by all of its bytes.
-#[tactic(auto, using(crate::proofs::OnFile::is_read))]
-fn header_of<D: Depot>(alloc: Global, depot: &mut D, file: FileNo) -> Result<Header, Fail>
+) -> Result<Header, Fail>
     requires given { file.0 < (D.world depot.old).given }
     ensures given { file.0 < (D.world depot.new).given }
     ensures read { IfOk result (λ h. IsRead h file.0 (D.world depot.new)) }
 {
-    let bytes = bytes_of(alloc, depot, file)?;
-    match read_header(alloc, &bytes, Part::Source) {
+    match read_image_header(alloc, depot, file, Part::Source) {
         Ok(header) => Ok(header),
         Err(_) => Err("no header".into()),
     }
 }
 
-// Opens the clusters of an image whose header was read.
-fn opened<D: Depot>(
+/// Opens the clusters of an image whose header was read.
+#[tactic(auto, using(crate::proofs::OnFile::read_on))]
+pub(crate) fn opened<D: Depot>(
     alloc: Global,
     depot: &mut D,
     file: FileNo,
@@ -116,7 +67,9 @@ fn opened<D: Depot>(
     requires given { file.0 < (D.world depot.old).given }
     requires header { IsRead header.now file.0 (D.world depot.old) }
     ensures file { IfOk result (λ c. c.file ≡ file.0) }
+    ensures bits { IfOk result (λ c. c.pool.bits ≡ header.now.fields.cluster_bits) }
     ensures given { file.0 < (D.world depot.new).given }
+    ensures read { IsRead header.now file.0 (D.world depot.new) }
 {
     match Clusters::open(alloc, depot, file, header) {
         Ok(clusters) => Ok(clusters),

@@ -10,7 +10,15 @@ mod costs;
 mod counting;
 #[cfg(test)]
 mod crashes;
+mod dropping;
 #[cfg(test)]
 mod images;
+mod opening;
+mod storing;
+#[cfg(test)]
+mod tables;
 
 pub use caller::fill_hole;
+pub use dropping::drop_cluster;
+pub use opening::{NotOpened, find_clusters, start_clusters};
+pub use storing::{Runs, store_run};
