@@ -1,4 +1,5 @@
 pub mod Messages
 pub mod Commands
+pub mod Recorded
 pub mod Replies
 pub mod Laws

@@ -40,3 +40,4 @@ pub mod ClosingLaws
 pub mod Memory
 pub mod Quiet
 pub mod AnswerLaws
+pub mod Recording

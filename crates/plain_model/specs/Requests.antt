@@ -19,7 +19,7 @@ use Rattle.core_events.specs.Answers.{Reply, Done, Content, Flags}
 use Rattle.monitor_model.specs.Commands.{first_of}
 use Rattle.script_model.specs.Recording.{is_drive}
 use Rattle.plain_model.specs.History.{now, disk_at}
-use Rattle.image_model.specs.Space.{Kind, Data, Hole, Zeroed, need}
+use Rattle.image_model.specs.Space.{need, allocation_flags}
 use Rattle.plain_model.specs.Jobs.{Job}
 use Rattle.plain_model.specs.Machine.{Machine, GoneView, size_of, live_view}
 
@@ -198,12 +198,6 @@ read_at Drive r m = bytes_at (now m.history) r
 read_at (Live job) r m = bytes_at (disk_at m.history job.point) r
 read_at (Gone event) r m = []
 read_at Nowhere r m = []
-
--- by NBD's `base:allocation`: a hole is 1, and what reads as zeros 2
-abbrev pub allocation_flags : Kind → ℕ
-allocation_flags Data = 0
-allocation_flags Hole = 3
-allocation_flags Zeroed = 2
 
 -- how the drive is stored; of a view nothing is told
 abbrev pub allocation_runs : Place → Request → Machine → List Run

@@ -1,5 +1,6 @@
 //! Laws of the definitions. Each function does nothing; its contract is the law.
 
+ghost use Rattle.plain_model.specs.Recorded.{LinesAreKept, Recordings};
 ghost use Rattle.plain_model.specs.Laws.{SoundnessIsKept, OpeningIsSound, ClosingIsSound, ClosingStoresLasting, QuietAnswersAreOwed, DenialsChangeNothing, RefusalsChangeNothing, EmptyTransactionDrawsAPoint, OutOfMemoryNumbersAnAction, BreakAnswersIo, RecordStaysTrue, ChainGivesDisk, TakenExactlyAsChains, CompletedRecordIsTrue, CopiesReadAsPoint, SettlingLeadsToDisk, NothingToSettle, LastDiskIsKept};
 
 /// Each event takes a sound state to a sound state.
@@ -98,4 +99,16 @@ pub fn nothing_to_settle()
 /// After a sync that was answered a crash leaves the disk itself.
 pub fn last_disk_is_kept()
     ensures { LastDiskIsKept }
+{}
+
+/// A recording keeps whole lines, up to the first that has no room.
+#[tactic(auto, using(crate::proofs::Recording::kept))]
+pub fn lines_are_kept()
+    ensures { LinesAreKept }
+{}
+
+/// Worked examples of what a recording holds of a run.
+#[tactic(auto, unfolding(crate::proofs::Recording::recordings_compute))]
+pub fn recordings()
+    ensures { Recordings }
 {}

@@ -4,3 +4,5 @@ pub mod Acting
 pub mod Commanding
 pub mod Whole
 pub mod Computing
+pub mod Ordered
+pub mod Accepted

@@ -1,16 +1,17 @@
 -- A whole message: what it asks, whatever its id, and what it is then.
 use Rattle.std.proofs.lemmas.Str.{IsUtf8-from_is_utf8, is_utf8-from_IsUtf8}
-use Rattle.std.proofs.Common.{◌≡◌, ℕ, List, [], ◌∷◌, Bool, true, false, cond, Option, Some, None, option_map, option_and_then, Result, Ok, Err, refl, sym, ap, bytes_eq, ◌∙◌}
+use Rattle.std.proofs.Common.{◌≡◌, ℕ, List, [], ◌∷◌, Bool, true, false, cond, Option, Some, None, option_map, option_and_then, Result, Ok, Err, refl, sym, ap, bytes_eq, ◌∙◌, rules}
 use Rattle.std.specs.Bool.{then_some}
 use Rattle.std.specs.Prelude.{codes}
 use Rattle.std.specs.Str.{IsUtf8, is_utf8}
 use Rattle.serde_json.specs.Data.{Data, null, boolean, number, string, array, object, Members}
 use Rattle.serde_json.specs.Read.{read}
+use Rattle.serde_json.specs.Written.{compact_text}
 use Rattle.core_events.specs.declared.commands.Command.{Command}
 use Rattle.monitor_model.specs.Commands as model
 use Rattle.monitor_model.specs.Commands.{order_of}
-use Rattle.qmp_command.specs.Recorded.{recorded_data, recorded_text, ReadsAlike}
-use Rattle.qmp_command.specs.Views.{told_fault, told_at, place_of, refused_at, Tells, TellsAt}
+use Rattle.monitor_model.specs.Recorded.{recorded_data, recorded_text, ReadsAlike}
+use Rattle.qmp_command.specs.Views.{told_fault, told_at, place_of, refused_at, id_of, Tells, TellsAt, TellsId}
 use Rattle.qmp_command.specs.declared.orders.QmpFault.{QmpFault}
 use Rattle.qmp_command.specs.declared.orders.QmpFault.TheVariants.{Memory}
 use Rattle.qmp_command.specs.declared.orders.Refused.{Refused}
@@ -108,6 +109,38 @@ order_of_data-named n (number x) name e f = absurd (cc)
 order_of_data-named n (string s) name e f = absurd (cc)
 order_of_data-named n (array ds) name e f = absurd (cc)
 order_of_data-named n (object ms) name e f = ap (by_text n ms) e ∙ ap (by_id n name ms) f
+
+-- ---- the id
+
+id_by-command : (id : Option Data) (command : Result Command model.At) → id_of (model.ordered id command) ≡ id
+id_by-command id (Ok command) = refl
+id_by-command id (Err at) = refl
+
+id_by-test : (id : Option Data) (test : Option model.Fault) → id_of (negotiated_by id test) ≡ id
+id_by-test id None = refl
+id_by-test id (Some fault) = refl
+
+id_by-name : (named n : Bool) (id : Option Data) (name : List ℕ) (ms : Members) → id_of (by_name named id name ms n) ≡ id
+id_by-name named true id name ms = id_by-command id (model.command_of name ms)
+id_by-name true false id name ms = id_by-test id (model.object_fault model.capabilities_table ms)
+id_by-name false false id name ms = refl
+
+id_by-members : (n : Bool) (id : Option Data) (name : List ℕ) (ms : Members) (test : Option model.Fault) → id_of (by_members n id name ms test) ≡ id
+id_by-members n id name ms None = id_by-name (bytes_eq name (codes "qmp_capabilities")) n id name (model.members_in (model.get (codes "arguments") ms))
+id_by-members n id name ms (Some fault) = refl
+
+tells_same : (text : Option (List ℕ)) (due : Result model.Order model.RefusedMessage) → text ≡ option_map compact_text (id_of due) → TellsId text due
+tells_same None due is = search rules
+tells_same (Some t) due is = sym is
+
+-- a message that names a command, with an id in order, has this id whatever it asks
+pub tells_id : (n : Bool) (d : Data) (name : List ℕ) (text : Option (List ℕ)) → let ms = model.members_in (Some d) in let id = model.get (codes "id") ms in
+    model.text_in (model.get (codes "execute") ms) ≡ Some name → model.id_has_float id ≡ false → text ≡ option_map compact_text id → TellsId text (model.order_of_data n d)
+tells_id n d name text e f is =
+    let ms = model.members_in (Some d) in
+    let own = own_test (model.unknown_in model.top_table ms) (model.is_wrong model.Object (model.get (codes "arguments") ms)) in
+    let whole = ap id_of (order_of_data-named n d name e f) ∙ id_by-members n (model.get (codes "id") ms) name ms own in
+    tells_same text (model.order_of_data n d) (is ∙ ap (option_map compact_text) (sym whole))
 
 -- ---- the text of a message
 

@@ -1,5 +1,5 @@
 -- The values of the code as those of the monitor's definitions, and what calls give.
-use Rattle.std.specs.Prelude.{◌≡◌, List, map, Option, Some, None, option_map, Result, Ok, Err, MatchResult, Vec}
+use Rattle.std.specs.Prelude.{◌≡◌, ℕ, List, map, Option, Some, None, option_map, IfSome, Result, Ok, Err, MatchResult, Vec}
 use Rattle.std.specs.Borrow.{Bor}
 use Rattle.std.specs.declared.alloc.Global.{Global}
 use Rattle.serde_json.specs.Data.{Data, Members}
@@ -86,6 +86,16 @@ told_order (model.Run command id) = Run command (option_map compact_text id)
 abbrev pub told : Result model.Order model.RefusedMessage → Result Order QmpRefusal
 told (Ok order) = Ok (told_order order)
 told (Err refusal) = Err (told_refusal refusal)
+
+-- the id of what a message is found to be
+abbrev pub id_of : Result model.Order model.RefusedMessage → Option Data
+id_of (Ok (model.Negotiate id)) = id
+id_of (Ok (model.Run command id)) = id
+id_of (Err refusal) = refusal.id
+
+-- no id is told, or the text of the one that is due
+abbrev pub TellsId : Option (List ℕ) → Result model.Order model.RefusedMessage → Type 0
+TellsId text due = IfSome text (λ t. option_map compact_text (id_of due) ≡ Some t)
 
 -- ---- what calls give
 

@@ -4,7 +4,7 @@ ghost use Rattle.std.specs.Prelude.{◌≡◌, ◌≢◌, IfOk, IfErr, MatchResu
 ghost use Rattle.serde_json.specs.View.{view};
 ghost use Rattle.serde_json.specs.Written.{compact_text};
 ghost use Rattle.monitor_model.specs.Commands as model;
-ghost use Rattle.qmp_command.specs.Views.{seen, members, told, GivesAsked};
+ghost use Rattle.qmp_command.specs.Views.{seen, members, told, TellsId, GivesAsked};
 
 use crate::commands::command_of;
 use crate::floats::has_float;
@@ -87,6 +87,7 @@ fn without_id(fault: QmpFault) -> QmpRefusal
 fn order_of(alloc: Global, value: &Value, negotiated: bool) -> Result<Order, QmpRefusal>
     ensures ordered { IfOk result (λ order. told (model.order_of_data negotiated (view value.now)) ≡ Ok order) }
     ensures refused { IfErr result (λ e. e.fault ≢ QmpFault.Memory → told (model.order_of_data negotiated (view value.now)) ≡ Err e) }
+    ensures id { IfErr result (λ e. TellsId e.id (model.order_of_data negotiated (view value.now))) }
 {
     let object = Some(value);
     let Some(name) = text_in(member(object, "execute")) else {
@@ -113,6 +114,7 @@ fn order_of(alloc: Global, value: &Value, negotiated: bool) -> Result<Order, Qmp
 pub fn read_command(alloc: Global, message: &[u8], negotiated: bool) -> Result<Order, QmpRefusal>
     ensures ordered { IfOk result (λ order. told (model.order_of negotiated message.now) ≡ Ok order) }
     ensures refused { IfErr result (λ e. e.fault ≢ QmpFault.Memory → told (model.order_of negotiated message.now) ≡ Err e) }
+    ensures id { IfErr result (λ e. TellsId e.id (model.order_of negotiated message.now)) }
 {
     match Value::from_slice(alloc, message) {
         Ok(value) => order_of(alloc, &value, negotiated),

@@ -1,7 +1,7 @@
 //! What a recording holds of a message.
 
 ghost use Rattle.std.specs.Prelude.{◌≡◌, option_map, IfOk, IfSome};
-ghost use Rattle.qmp_command.specs.Recorded.{recorded_text, ReadsAlike};
+ghost use Rattle.monitor_model.specs.Recorded.{recorded_text, ReadsAlike};
 
 use crate::floats::has_float;
 use core_events::Memory;

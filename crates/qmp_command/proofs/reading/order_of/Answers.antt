@@ -8,7 +8,7 @@ use Rattle.qmp_command.specs.Views.{told, order_with}
 use Rattle.qmp_command.specs.declared.orders.Order.TheVariants.{Negotiate, Run}
 use Rattle.qmp_command.specs.declared.orders.QmpRefusal.{QmpRefusal}
 use Rattle.qmp_command.specs.declared.orders.Refused.{Refused}
-use Rattle.qmp_command.proofs.Whole.{order_of_data-named}
+use Rattle.qmp_command.proofs.Whole.{order_of_data-named, tells_id}
 use Rattle.qmp_command.proofs.reading.order_of.Goals as goal
 
 pub returns-in-Ok-Some-clause-ordered : goal.returns-in-Ok-Some-clause-ordered
@@ -52,3 +52,11 @@ returns-in-Err-asked-clause-refused c some =
     ap told (order_of_data-named n d name named whole ∙ due.2 id)
     ∙ ap (λ (r : Refused). Err (with_id (option_map compact_text id) r)) due.1
     ∙ ap (λ (i : Option (List ℕ)). Err (with_id i c.in-Err-asked.refused)) (sym told_id)
+
+pub returns-in-Err-asked-clause-id : goal.returns-in-Err-asked-clause-id
+returns-in-Err-asked-clause-id c =
+    let d = view c.args.value.now in
+    let named : model.text_in (model.get (codes "execute") (model.members_in (Some d))) ≡ Some c.in-Some.name.now = search rules in
+    let whole : model.id_has_float (model.get (codes "id") (model.members_in (Some d))) ≡ false = search rules in
+    let text : c.in-Ok.id ≡ option_map compact_text (model.get (codes "id") (model.members_in (Some d))) = search rules in
+    tells_id c.args.negotiated d c.in-Some.name.now c.in-Ok.id named whole text
