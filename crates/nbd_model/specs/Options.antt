@@ -30,12 +30,17 @@ transmission_flags e = if e.writable then 77 else 7
 abbrev pub size_and_flags : ExportInfo → List ℕ
 size_and_flags e = be64 e.size ++ be16 (transmission_flags e)
 
--- the contexts of an export: how it is stored, and then one for each of its bitmaps, in their order
+-- a name once, at its first place
+abbrev pub once_each : List (List ℕ) → List (List ℕ)
+once_each [] = []
+once_each (name ∷ names) = name ∷ filter (λ other. not (bytes_eq name other)) (once_each names)
+
+-- the contexts of an export: how it is stored, and then one for each of its bitmaps, in their order, a repeated one at its first place
 abbrev pub bitmap_context : SourceName → List ℕ
 bitmap_context s = codes "qemu:dirty-bitmap:" ++ s.name
 
 abbrev pub contexts_of : ExportInfo → List (List ℕ)
-contexts_of e = codes "base:allocation" ∷ map bitmap_context e.contexts
+contexts_of e = once_each (codes "base:allocation" ∷ map bitmap_context e.contexts)
 
 abbrev pub list_replies : ℕ → List ExportInfo → List ℕ
 list_replies option [] = option_reply option ack []
@@ -130,11 +135,6 @@ is_listed (q ∷ queries) context = list_any (answers context) (q ∷ queries)
 abbrev pub listed_replies : ℕ → List (List ℕ) → List ℕ
 listed_replies option [] = option_reply option ack []
 listed_replies option (name ∷ names) = context_reply option 0 name ++ listed_replies option names
-
--- a name once, at its first place
-abbrev pub once_each : List (List ℕ) → List (List ℕ)
-once_each [] = []
-once_each (name ∷ names) = name ∷ filter (λ other. not (bytes_eq name other)) (once_each names)
 
 -- those that are whole names of contexts, each once, in the order of the queries
 abbrev pub selected_by : List (List ℕ) → ExportInfo → List (List ℕ)
