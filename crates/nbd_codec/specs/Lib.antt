@@ -1,0 +1,4 @@
+pub mod Heads
+pub mod Contents
+pub mod Spelling
+pub mod Laws
