@@ -16,13 +16,14 @@ use Rattle.image_steps.proofs.Good.{more_safe}
 use Rattle.image_steps.proofs.Places.{place_next, place_some}
 use Rattle.image_steps.proofs.Standing.{moves_on, stands_less}
 use Rattle.image_steps.proofs.Storing.{linking_on, rest_after}
-use Rattle.cluster_pool.specs.Pool.{Pool, IsPool, block_at, is_own_block, IsReady, HasTaken, given_back}
-use Rattle.cluster_pool.specs.Sets.{with_member, without_member}
+use Rattle.cluster_pool.specs.Pool.{Pool, IsPool, is_own_block, IsReady, HasTaken, given_back}
+use Rattle.cluster_pool.specs.Sets.{without_member}
 use Rattle.cluster_pool.proofs.Words.{is_in-with, is_in-with_other, is_in-without, is_in-without_other}
-use Rattle.qc_alloc.specs.Allocator.{Allocator, IsAllocator, IsOf, IsHalfAdded, HasTable, Allocates, HandsOut}
+use Rattle.qc_alloc.specs.Allocator.{Allocator, IsAllocator, IsOf, HasTable, Allocates, HandsOut, StandsFrom, DiffersInUse}
 use Rattle.qc_alloc.specs.Growing.{Raises, Grows}
 use Rattle.qc_alloc.specs.Laws.{CanBeUsed, PreparedIsClean}
-use Rattle.alloc_tests.specs.Caller.{IsHole, IsFull, StandsFrom}
+use Rattle.qc_alloc.proofs.Naming.{table_on, use_leaves}
+use Rattle.alloc_tests.specs.Caller.{IsHole, IsFull}
 
 -- ---- numbers
 
@@ -41,13 +42,6 @@ place_is {s} {a} k is = ap (λ (n : ℕ). n * k) is.cluster ∙ mul_assoc 512 s.
 
 number_of : (v : ℕ) → v < 18446744073709551616 → u64_at (to_be_bytes w64 v) 0 ≡ v
 number_of v fits = subst (λ (l : List ℕ). u64_at l 0 ≡ v) (append-nil (to_be_bytes w64 v)) (number-append w64 [] [] 0 v refl fits)
-
-abbrev parts : ℕ → ℕ → Pool → Allocator
-parts file table pool = record { file = file; table = table; pool = pool }
-
-same_allocator : (a b : Allocator) → a.file ≡ b.file → a.table ≡ b.table → a.pool ≡ b.pool → a ≡ b
-same_allocator a b file table pool =
-    ap (λ (f : ℕ). parts f a.table a.pool) file ∙ ap (λ (t : ℕ). parts b.file t a.pool) table ∙ ap (λ (p : Pool). parts b.file b.table p) pool
 
 shown : (at : ℕ → ℕ) (host place t : ℕ) → host ≡ place → 0 < place → pick host (at (host + t)) ≡ at (place + t)
 shown at zero place t same some = absurd (omega (arith, same, some))
@@ -109,18 +103,10 @@ taken_spoken q r k is ready taken = ap (λ (x : Pool). is_in x.spoken k) taken.i
 -- a cluster that is given back changes nothing else
 pub given_stands : {s : Shape} {disks : List (List ℕ)} {w : World} (a b : Allocator) (k : ℕ) → b ≡ record a { pool = given_back a.pool k } → StandsFrom s disks a w → StandsFrom s disks b w
 given_stands {s} {disks} {w} a b k same stands =
-    let al = stands.2 in
     subst (λ (x : Allocator). StandsFrom s disks x w) (sym same) (
       stands.0,
       record { ready = stands.1.ready; fresh = stands.1.fresh },
-      record {
-        is = record { shape = al.is.shape; table = al.is.table; cluster = al.is.cluster; blocks = al.is.blocks };
-        stands = al.stands;
-        table = λ told i inside. ⊎_elim
-            (λ (at : u64_at (w.seen a.file) (s.counts + 8 * i) ≡ block_at a.pool i). inl at)
-            (λ (half : IsHalfAdded s a i (w.seen a.file)). inr (record { missing = half.missing; counts = half.counts; word = half.word }))
-            (al.table told i inside);
-      },
+      use_leaves s disks stands.0 a (record a { pool = given_back a.pool k }) w (record { file = refl; table = refl; bits = refl; blocks = refl; prepared = refl }) stands.2,
     )
 
 -- ---- a cluster is taken and filled
@@ -177,27 +163,14 @@ module _ {s : Shape} {disks : List (List ℕ)} {first q i j k f spot at : ℕ} {
       linking_on run (record { shape = al1.is.shape; slots = hole.slots; some = some told; below = omega arith; links = links; opened = hole.opened })
       (λ was. grown_leaves {disks = disks} {first = first} file0 grows al was)
 
-  -- the allocator afterwards
-  rest : List ℕ
-  rest = taken.rest
-
-  next : Allocator
-  next = record a1 { pool = record a1.pool { ready = taken.rest; spoken = with_member a1.pool.spoken k } }
-
-  allocates_next : {e : List ℕ} {w2 : World} → IsStanding s (e ∷ disks) (k + 1) a1.pool.prepared f w2 → Told (HasTable s a1) f w2 → Allocates s (e ∷ disks) (k + 1) next w2
-  unfolding next
-  allocates_next {e} {w2} stands table = record {
-    is = record { shape = al1.is.shape; table = al1.is.table; cluster = al1.is.cluster; blocks = al1.is.blocks };
-    stands = subst (λ (g : ℕ). IsStanding s (e ∷ disks) (k + 1) a1.pool.prepared g w2) (sym file1) stands;
-    table = λ told x x_in. ⊎_elim
-        (λ (at : u64_at (w2.seen a1.file) (s.counts + 8 * x) ≡ block_at a1.pool x). inl at)
-        (λ (half : IsHalfAdded s a1 x (w2.seen a1.file)). inr (record { missing = half.missing; counts = half.counts; word = half.word }))
-        (subst (λ (g : ℕ). HasTable s a1 (w2.seen g)) (sym file1) (table told) x x_in);
+  differs : DiffersInUse a1 a2
+  differs = record {
+    file = same.0;
+    table = same.1;
+    bits = ap (λ (p : Pool). p.bits) taken.is;
+    blocks = ap (λ (p : Pool). p.blocks) taken.is;
+    prepared = ap (λ (p : Pool). p.prepared) taken.is;
   }
-
-  is_next : next ≡ a2
-  unfolding next
-  is_next = sym (same_allocator a2 next same.0 same.1 taken.is)
 
   -- what the write gives, whatever it answers
   module _ {w2 : World} (on : Runs (writes_of f) w1 w2) (sound : IsSound w2)
@@ -222,15 +195,13 @@ module _ {s : Shape} {disks : List (List ℕ)} {first q i j k f spot at : ℕ} {
     filled_stands = (
       k + 1,
       out.1,
-      subst (λ (d : Allocator). Allocates s (w2.seen f ∷ disks) (k + 1) d w2) is_next
-          (allocates_next (λ told. (wrote (told1 told)).stands stands1 told)
-          (λ told x x_in.
-          let was = rows s disks first a1.pool.prepared k 1 q i j (filling (told1 told)) (linking (told1 told)) stands1 (told1 told) in
-          let old : HasTable s a1 (w1.seen f) = subst (λ (g : ℕ). HasTable s a1 (w1.seen g)) file1 (al1.table (told1 told)) in
-          ⊎_elim
-          (λ (same : u64_at (w1.seen f) (s.counts + 8 * x) ≡ block_at a1.pool x). inl (was.1 x x_in ∙ same))
-          (λ (half : IsHalfAdded s a1 x (w1.seen f)). inr (record { missing = half.missing; counts = half.counts; word = was.1 x x_in ∙ half.word }))
-          (old x x_in))),
+      use_leaves s (w2.seen f ∷ disks) (k + 1) a1 a2 w2 differs (record {
+        is = al1.is;
+        stands = subst (λ (g : ℕ). IsStanding s (w2.seen f ∷ disks) (k + 1) a1.pool.prepared g w2) (sym file1) (λ told. (wrote (told1 told)).stands stands1 told);
+        table = subst (λ (g : ℕ). Told (HasTable s a1) g w2) (sym file1) (λ told.
+            table_on s a1 (w1.seen f) (w2.seen f) (rows s disks first a1.pool.prepared k 1 q i j (filling (told1 told)) (linking (told1 told)) stands1 (told1 told)).1
+            (subst (λ (g : ℕ). HasTable s a1 (w1.seen g)) file1 (al1.table (told1 told))));
+      }),
     )
 
     pub filled_leaves : ((s : Shape) (disks : List (List ℕ)) (first last k n q i j : ℕ) → IsFilling s first last k n at (length bytes) f w1 → IsLinking s (k + n) k n q i j spot f words w1

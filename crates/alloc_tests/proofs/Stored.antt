@@ -17,6 +17,7 @@ use Rattle.cluster_pool.specs.Pool.{Pool, block_at}
 use Rattle.qc_alloc.specs.Allocator.{Allocator, IsAllocator, IsOf, IsHalfAdded, HasTable, Allocates, HandsOut}
 use Rattle.qc_alloc.specs.Growing.{Grows, TakesRun, SparesClaimed}
 use Rattle.qc_alloc.specs.Laws.{CanBeUsed, PreparedIsClean}
+use Rattle.qc_alloc.proofs.Naming.{table_on}
 use Rattle.alloc_tests.specs.Storing.{AllocatesSome}
 use Rattle.alloc_tests.proofs.Filling.{shift_at}
 
@@ -76,14 +77,9 @@ module _ {s : Shape} {disks : List (List ℕ)} {low f at count k : ℕ} (bytes :
     al2 = record {
       is = al1.is;
       stands = subst (λ (g : ℕ). IsStanding s disks (k + count) a1.pool.prepared g w2) (sym file1) (λ told. held told told);
-      table = subst (λ (g : ℕ). Told (HasTable s a1) g w2) (sym file1) (λ told x x_in.
+      table = subst (λ (g : ℕ). Told (HasTable s a1) g w2) (sym file1) (λ told.
           let told1 : IsTrue w1.tells = subst IsTrue on.goes.tells told in
-          let was : HasTable s a1 (w1.seen f) = subst (λ (g : ℕ). HasTable s a1 (w1.seen g)) file1 (al1.table told1) in
-          let same = blocks told1 x x_in in
-          ⊎_elim
-          (λ (word : u64_at (w1.seen f) (s.counts + 8 * x) ≡ block_at a1.pool x). inl (same ∙ word))
-          (λ (half : IsHalfAdded s a1 x (w1.seen f)). inr (record { missing = half.missing; counts = half.counts; word = same ∙ half.word }))
-          (was x x_in));
+          table_on s a1 (w1.seen f) (w2.seen f) (blocks told1) (subst (λ (g : ℕ). HasTable s a1 (w1.seen g)) file1 (al1.table told1)));
     }
 
     pub wrote_since : IsSound w2 → EachSince w2 w1.now f (IsSafe s disks)

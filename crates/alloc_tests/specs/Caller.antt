@@ -5,7 +5,6 @@ use Rattle.disk_model.specs.World.{World}
 use Rattle.image_model.specs.Clusters.{Shape, size, place}
 use Rattle.image_model.specs.Calls.{Told}
 use Rattle.image_model.specs.Runs.{IsSlots, AreOpen}
-use Rattle.qc_alloc.specs.Allocator.{Allocator, Allocates, HandsOut}
 
 -- entry j of the guest's table i lies here, in cluster q, and names nothing
 pub record IsHole (s : Shape) (q i j spot f : ℕ) (w : World) : Type 0 where
@@ -15,7 +14,3 @@ pub record IsHole (s : Shape) (q i j spot f : ℕ) (w : World) : Type 0 where
 -- cluster k has these bytes
 abbrev pub IsFull : Shape → ℕ → List ℕ → List ℕ → Type 0
 IsFull s k bytes file = (t : ℕ) → t < size s → byte file (place s k + t) ≡ byte bytes t
-
--- the image stands, the allocator knows it, and hands out clusters that are ready
-abbrev pub StandsFrom : Shape → List (List ℕ) → Allocator → World → Type 0
-StandsFrom s disks a w = (first : ℕ) × HandsOut first a × Allocates s disks first a w

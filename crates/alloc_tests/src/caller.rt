@@ -7,8 +7,8 @@ ghost use Rattle.bitmap_model.specs.Granules.{is_in};
 ghost use Rattle.image_model.specs.Clusters.{Shape, size, guest, IsSafe, Moves, Reads};
 ghost use Rattle.image_model.specs.Runs.{LeavesRest};
 ghost use Rattle.cluster_pool.specs.Pool.{room, is_own_block};
-ghost use Rattle.qc_alloc.specs.Allocator.{Allocates, HandsOut};
-ghost use Rattle.alloc_tests.specs.Caller.{IsHole, IsFull, StandsFrom};
+ghost use Rattle.qc_alloc.specs.Allocator.{Allocates, HandsOut, StandsFrom};
+ghost use Rattle.alloc_tests.specs.Caller.{IsHole, IsFull};
 
 use disk_model::{Depot, FileNo, WriteRefusal};
 use image_calls::{NotStored, write_run};

@@ -6,3 +6,4 @@ pub mod Keeping
 pub mod Blocks
 pub mod Insides
 pub mod Rooms
+pub mod Rows

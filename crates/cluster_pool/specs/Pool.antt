@@ -177,6 +177,14 @@ pub record HasAll (old new : List Bool) (k n : ℕ) : Type 0 where
   pub inside : (j : ℕ) → k ≤ j → j < k + n → j < length old → IsTrue (is_in new j)
   pub others : (j : ℕ) → (j < k) ⊎ (k + n ≤ j) → is_in new j ≡ is_in old j
 
+-- the first n ready clusters are taken, which are neighbours from k on
+pub record HasTakenRow (p q : Pool) (k n : ℕ) : Type 0 where
+  pub some : 0 < n
+  pub rest : List ℕ
+  pub first : p.ready ≡ range_with_len k n ++ rest
+  pub spoken : HasAll p.spoken q.spoken k n
+  pub is : q ≡ record p { ready = rest; spoken = q.spoken }
+
 -- neighbours that were prepared are taken; fresh ones before them are passed over
 pub record HasTakenRun (p q : Pool) (first count : ℕ) : Type 0 where
   pub spoken : HasAll p.spoken q.spoken first count

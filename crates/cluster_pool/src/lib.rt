@@ -10,5 +10,5 @@ mod set;
 #[cfg(test)]
 mod tests;
 
-pub use pool::Pool;
+pub use pool::{Neighbours, Pool};
 pub use set::ClusterSet;

@@ -1,13 +1,13 @@
 //! Clusters that are spoken for, and those that can be handed out.
 
-ghost use Rattle.std.specs.Prelude.{◌≡◌, ◌≢◌, ◌↔◌, ◌⊎◌, ℕ, ◌+◌, ◌*◌, ◌/◌, ◌%◌, ◌^◌, ◌<◌, ◌≤◌, List, length, true, false, Bool, Some, None, Err, IfOk, IfErr, OnOk, OnErr, IfSome, IsNone, IsTrue, filter, not, ◌==◌, ◌-◌, ◌&&◌, min, All, count_by, nat_lt, nat_le, if◌then◌else◌, []};
+ghost use Rattle.std.specs.Prelude.{◌≡◌, ◌≢◌, ◌↔◌, ◌⊎◌, ℕ, ◌+◌, ◌*◌, ◌/◌, ◌%◌, ◌^◌, ◌<◌, ◌≤◌, List, length, true, false, Bool, Some, None, Err, IfOk, IfErr, OnOk, OnErr, IfSome, IsNone, IsTrue, filter, not, ◌==◌, ◌-◌, ◌&&◌, min, All, count_by, nat_lt, nat_le, if◌then◌else◌, [], slice_index};
 ghost use Rattle.std.specs.List.{range_with_len};
 ghost use Rattle.bitmap_model.specs.Granules.{is_in};
 ghost use Rattle.qc_layout.specs.Disks.{place_of, counts_in};
 ghost use Rattle.qc_layout.specs.declared.faults.ImageFault.{ImageFault};
 ghost use Rattle.cluster_pool.specs.Pool as pools;
 ghost use Rattle.cluster_pool.specs.Sets.{with_member};
-ghost use Rattle.cluster_pool.specs.Pool.{IsPool, IsReady, each, reach, block_of, is_own_block, becomes_block, is_open, fresh, room, is_counted, claim_refusal, found_pool, claimed, given_back, HasTaken, prepared_on, HasAddedBlock, stepped, IsRunOf, IsFirstRunOf, HasNoRunOf, HasTakenRun, emptied, settled};
+ghost use Rattle.cluster_pool.specs.Pool.{IsPool, IsReady, each, reach, block_of, is_own_block, becomes_block, is_open, fresh, room, is_counted, claim_refusal, found_pool, claimed, given_back, HasTaken, HasTakenRow, prepared_on, HasAddedBlock, stepped, IsRunOf, IsFirstRunOf, HasNoRunOf, HasTakenRun, emptied, settled};
 
 use crate::set::ClusterSet;
 use qc_layout::ImageFault;
@@ -17,6 +17,15 @@ use std::marker::Model;
 
 /// How many clusters may be ready at once.
 const READY: usize = 64;
+
+/// Clusters next to one another.
+#[derive(Clone, Copy, Debug, PartialEq, Eq)]
+pub struct Neighbours {
+    /// The first, by its number.
+    pub first: u64,
+    /// How many they are.
+    pub count: u64,
+}
 
 /// The clusters of an image, as an allocator sees them.
 #[derive(Debug, Drop)]
@@ -184,6 +193,7 @@ impl Pool {
         ensures taken { HasTaken self.old self.new result }
         ensures ready { IsReady self.old result }
         ensures fresh { fresh self.new ≡ fresh self.old }
+        ensures pool { IsPool self.new }
     {
         match self.ready.pop_front() {
             Some(index) => {
@@ -192,6 +202,26 @@ impl Pool {
             }
             None => 0,
         }
+    }
+
+    /// Takes the first ready cluster, and those behind it that are its neighbours, at most so many.
+    pub fn take_neighbours(&mut self, most: u64) -> Neighbours
+        requires ready { 0 < length self.old.ready }
+        requires some { 0 < most }
+        ensures taken { HasTakenRow self.old self.new result.first result.count }
+        ensures most { result.count ≤ most }
+        ensures whole { result.count < most → slice_index self.new.ready 0 ≢ result.first + result.count }
+        ensures ready { (k : ℕ) → result.first ≤ k → k < result.first + result.count → IsReady self.old k }
+        ensures fresh { fresh self.new ≡ fresh self.old }
+        ensures pool { IsPool self.new }
+    {
+        let first = self.take_ready();
+        let mut count = 1;
+        while count < most && self.ready.front() == Some(&(first + count)) {
+            self.take_ready();
+            count += 1;
+        }
+        Neighbours { first, count }
     }
 
     /// Nothing refers to a cluster any more. One before the first fresh cluster isn't handed out again; any other is fresh again.

@@ -1,8 +1,7 @@
 -- Which clusters are spoken for while more are prepared: those that something refers to.
-use Rattle.std.proofs.Common.{◌≡◌, ◌≢◌, ◌⊎◌, inl, inr, ⊎_elim, ℕ, ◌+◌, ◌*◌, ◌/◌, ◌<◌, max, List, length, Bool, true, false, not, ◌&&◌, ◌||◌, IsTrue, refl, sym, ◌∙◌, ap, subst, eq-eqb, arith}
+use Rattle.std.proofs.Common.{◌≡◌, ◌≢◌, ◌⊎◌, inl, inr, ⊎_elim, ℕ, ◌*◌, ◌/◌, ◌<◌, max, List, length, Bool, true, false, not, ◌&&◌, ◌||◌, IsTrue, refl, sym, ◌∙◌, ap, subst, eq-eqb, arith}
 use Rattle.std.proofs.lemmas.Bool.{cases_eq, cases_lt, ne_eqb, eqb-true, eqb-false}
 use Rattle.std.proofs.lemmas.List.{get_or_past}
-use Rattle.disk_model.specs.Files.{u64_at}
 use Rattle.bitmap_model.specs.Granules.{is_in}
 use Rattle.qc_layout.specs.Disks.{place_of, counts_in}
 use Rattle.cluster_pool.specs.Pool as pools
@@ -12,10 +11,10 @@ use Rattle.qc_alloc.specs.Allocator.{Allocator, IsAllocator, IsOf, IsHalfAdded, 
 use Rattle.qc_alloc.specs.Growing.{Raises}
 use Rattle.qc_alloc.specs.Laws.{IsExact}
 use Rattle.qc_alloc.proofs.Grown.{place_is}
+use Rattle.qc_alloc.proofs.Naming.{guest_by, refers_on}
 use Rattle.qc_alloc.proofs.Raising.{place_of_some}
-use Rattle.image_model.specs.Clusters.{Shape, Who, Head, Counts, Block, Tables, Table, Guest, Bitmaps, offset, per, place, IsBlock, IsTable, IsGuest, Refers}
+use Rattle.image_model.specs.Clusters.{Shape, Who, Head, Counts, Block, Tables, Table, Guest, Bitmaps, offset, place, IsBlock, IsTable, IsGuest, Refers}
 use Rattle.image_model.specs.Calls.{AreExactly, LeavesGuest, SameTables}
-use Rattle.image_steps.proofs.Naming.{entry_some}
 use Rattle.image_steps.proofs.Places.{place_some, place_zero}
 
 spoken_block : (p o w q : Bool) → q ≡ (p || (o && not w)) → o ≡ true → w ≡ false → q ≡ true
@@ -45,28 +44,8 @@ module _ (s : Shape) (a b : Allocator) (old new : List ℕ) (is : IsAllocator a)
   table_back : (i q : ℕ) → IsTable s new i q → IsTable s old i q
   table_back i q t = record { inside = t.inside; some = t.some; at = ap offset (sym (tables i t.inside)) ∙ t.at }
 
-  -- an entry of a table that is linked
-  entry_is : (i j q : ℕ) → j < per s → IsTable s old i q → IsTable s new i q → u64_at new (place s q + 8 * j) ≡ u64_at old (place s q + 8 * j)
-  entry_is i j q inside t u = sym (entry_some s new i j q of.shape.some u) ∙ leaves.alike.entries i j t.inside inside ∙ entry_some s old i j q of.shape.some t
-
   guest_back : (i j k : ℕ) → IsGuest s new i j k → IsGuest s old i j k
-  guest_back i j k g =
-      let t = table_back i g.table g.linked in
-      record { table = g.table; linked = t; inside = g.inside; some = g.some; at = ap offset (sym (entry_is i j g.table g.inside t g.linked)) ∙ g.at }
-
-  guest_on : (i j k : ℕ) → IsGuest s old i j k → IsGuest s new i j k
-  guest_on i j k g =
-      let t = leaves.keeps.tables i g.table g.linked in
-      record { table = g.table; linked = t; inside = g.inside; some = g.some; at = ap offset (entry_is i j g.table g.inside g.linked t) ∙ g.at }
-
-  refers_on : (who : Who) (k : ℕ) → Refers s old who k → Refers s new who k
-  refers_on Head k r = r
-  refers_on Counts k r = r
-  refers_on (Block i) k r = leaves.keeps.blocks i k r
-  refers_on Tables k r = r
-  refers_on (Table i) k r = leaves.keeps.tables i k r
-  refers_on (Guest i j) k r = guest_on i j k r
-  refers_on (Bitmaps held) k r = r
+  guest_back i j k g = guest_by s new old i j k of.shape.some g (table_back i g.table g.linked) (sym (leaves.alike.entries i j g.linked.inside g.inside))
 
   -- ---- blocks
 
@@ -142,7 +121,7 @@ module _ (s : Shape) (a b : Allocator) (old new : List ℕ) (is : IsAllocator a)
 
     there : (k : ℕ) → IsTrue (is_in b.pool.spoken k) → (who : Who) × Refers s new who k
     there k spoken = elim (spoken_since _ (is_own_block b.pool k) (is_own_block a.pool k) _ (raises.spoken k) spoken) [
-      | inl was ↦ let who = exact.exact k was in (who.0, refers_on who.0 k who.1)
+      | inl was ↦ let who = exact.exact k was in (who.0, refers_on s old new of.shape.some leaves who.0 k who.1)
       | inr since ↦ (Block (k / pools.each b.pool), own_there k since.0 since.1)
     ]
 

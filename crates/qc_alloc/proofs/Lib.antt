@@ -17,3 +17,4 @@ pub mod Opened
 pub mod Pooled
 pub mod Exact
 pub mod Runs
+pub mod Naming

@@ -1,19 +1,22 @@
 -- What holds of every pool holds after a claim, a taking and a giving back.
-use Rattle.std.proofs.Common.{◌≡◌, ◌≢◌, ℕ, ◌+◌, ◌*◌, ◌^◌, ◌<◌, ◌≤◌, List, [], ◌∷◌, length, min, slice_index, filter, None, Result, Ok, Err, OnOk, OnErr, Bool, true, false, not, inl, inr, refl, sym, ap, subst, ◌∙◌, arith}
+use Rattle.std.proofs.Common.{◌≡◌, ◌≢◌, ℕ, zero, suc, ◌+◌, ◌-◌, ◌*◌, ◌^◌, ◌<◌, ◌≤◌, List, [], ◌∷◌, ◌++◌, length, min, slice_index, filter, None, Result, Ok, Err, OnOk, OnErr, Bool, true, false, not, inl, inr, refl, sym, ap, subst, ◌∙◌, arith}
 use Rattle.std.specs.Prelude.{◌==◌}
-use Rattle.std.specs.List.{All}
+use Rattle.std.specs.List.{All, range_with_len}
 use Rattle.std.proofs.lemmas.Bool.{eq-eqb, cases_Bool, cases_eq}
-use Rattle.std.proofs.lemmas.List.Elements.{All-filter, All-nil, All-cons, All-head, All-tail}
+use Rattle.std.proofs.lemmas.List.{length-append}
+use Rattle.std.proofs.lemmas.List.FromFn.{length-range_with_len}
+use Rattle.std.proofs.lemmas.List.Elements.{All-filter, All-nil, All-cons, All-head, All-tail, All-weaker}
 use Rattle.bitmap_model.specs.Granules.{is_in}
-use Rattle.cluster_pool.specs.Sets.{with_member, without_member}
+use Rattle.cluster_pool.specs.Sets.{without_member}
 use Rattle.qc_layout.specs.Disks.{place_of, counts_in}
 use Rattle.qc_alloc.specs.declared.clusters.Clusters.TheInside.{Inside}
 use Rattle.qc_alloc.specs.declared.refusals.ClusterRefusal.{ClusterRefusal}
 use Rattle.qc_alloc.specs.Allocator.{Allocator, HandsOut}
 use Rattle.qc_alloc.specs.Inside.{IsInside}
-use Rattle.cluster_pool.specs.Pool.{Pool, claim_refusal, IsPool, IsReady, AreRising, claimed, given_back, HasTaken}
+use Rattle.cluster_pool.specs.Pool.{Pool, claim_refusal, IsPool, IsReady, AreRising, claimed, given_back, HasTaken, HasTakenRow, fresh, room}
 use Rattle.cluster_pool.proofs.Keeping.{rising_filter, filter_short}
 use Rattle.cluster_pool.proofs.Words.{length-with, length-without, is_in-with_other, is_in-without, is_in-without_other}
+use Rattle.cluster_pool.proofs.Rows.{row_one}
 use Rattle.qc_alloc.proofs.Claiming.{claimed_below}
 
 -- ---- some of a list
@@ -67,31 +70,10 @@ pool_given p k is = record {
   at_once = is.at_once;
 }
 
-pub pool_taken : (p q : Pool) (k : ℕ) → IsPool p → HasTaken p q k → IsPool q
-pool_taken p q k is taken =
-    let rest : List ℕ = taken.rest in
-    let P : List ℕ → Type 0 = λ ks. All (IsReady p) ks in
-    let ready : All (IsReady p) (k ∷ rest) = subst P taken.first is.ready in
-    let rising : AreRising (k ∷ rest) = subst AreRising taken.first is.rising in
-    let most = is.at_once in
-    let count = ap (λ (ks : List ℕ). length ks) taken.first in
-    let Q : Pool → Type 0 = IsPool in
-    let whole : IsPool (record p { ready = rest; spoken = with_member p.spoken k }) = record {
-      low = is.low;
-      high = is.high;
-      few = is.few;
-      spoken = length-with p.spoken k ∙ is.spoken;
-      order = is.order;
-      found = is.found;
-      linked = is.linked;
-      ready = λ j d below.
-          let r = All-tail (IsReady p) k rest ready j d below in
-          let up = rising.0 j d below in
-          record { below = r.below; reach = r.reach; unspoken = is_in-with_other p.spoken k _ (λ e. absurd (omega (arith, up, e))) ∙ r.unspoken; linked = r.linked; differs = r.differs };
-      rising = rising.1;
-      at_once = omega (arith, most, count);
-    } in
-    subst Q (sym taken.is) whole
+-- one row of them fewer
+pub row_room : (p q : Pool) (k n : ℕ) → HasTakenRow p q k n → fresh q ≡ fresh p → room p ≡ room q + n
+row_room p q k n row same =
+    omega (arith, same, ap (λ (xs : List ℕ). length xs) row.first, length-append (range_with_len k n) row.rest, length-range_with_len k n, ap (λ (x : Pool). length x.ready) row.is)
 
 -- ---- what is handed out next
 
@@ -106,14 +88,24 @@ hands_claimed first k a b (Err why) done kept is = record {
   fresh = omega (arith, is.fresh, ap (λ (p : Pool). p.next) kept);
 }
 
--- a cluster that is taken is a prepared one
-taken_unspoken : (p q : Pool) (k : ℕ) → IsPool p → HasTaken p q k → ((j : ℕ) → p.prepared ≤ j → is_in p.spoken j ≡ false) → (j : ℕ) → p.prepared ≤ j → is_in q.spoken j ≡ false
-taken_unspoken p q k is taken unspoken j high =
-    let P : List ℕ → Type 0 = λ ks. All (IsReady p) ks in
-    let ready : All (IsReady p) (k ∷ taken.rest) = subst P taken.first is.ready in
-    let below = (All-head (IsReady p) k taken.rest ready).below in
-    let order = is.order in
-    ap (λ (x : Pool). is_in x.spoken j) taken.is ∙ (is_in-with_other p.spoken k j (λ e. absurd (omega (arith, below, order, high, e))) ∙ unspoken j high)
+row_head : (P : ℕ → Type 0) (k n : ℕ) (rest : List ℕ) → 0 < n → All P (range_with_len k n ++ rest) → P k
+row_head P k zero rest some all = absurd (omega arith)
+row_head P k (suc n) rest some all = All-head P k (range_with_len (k + 1) n ++ rest) all
+
+row_behind : (k n : ℕ) (rest : List ℕ) → 0 < n → AreRising (range_with_len k n ++ rest) → All (λ m. k + n ≤ m) rest
+row_behind k zero rest some rising = absurd (omega arith)
+row_behind k (suc zero) rest some rising = All-weaker (λ m. k < m) (λ m. k + 1 ≤ m) (λ m above. omega arith) rest rising.0
+row_behind k (suc (suc n)) rest some rising = All-weaker (λ m. k + 1 + suc n ≤ m) (λ m. k + suc (suc n) ≤ m) (λ m above. omega arith) rest (row_behind (k + 1) (suc n) rest (omega arith) rising.1)
+
+-- the clusters of a row are ready, and those behind it are handed out later
+pub hands_row : (first k n : ℕ) (a b : Allocator) → IsPool a.pool → HasTakenRow a.pool b.pool k n → ((j : ℕ) → k ≤ j → j < k + n → IsReady a.pool j) → HandsOut first a → (first ≤ k) × HandsOut (k + n) b
+hands_row first k n a b is row ready hands = (
+  row_head (λ m. first ≤ m) k n row.rest row.some (subst (All (λ m. first ≤ m)) row.first hands.ready),
+  record {
+    ready = subst (λ (p : Pool). All (λ m. k + n ≤ m) p.ready) (sym row.is) (row_behind k n row.rest row.some (subst AreRising row.first is.rising));
+    fresh = omega (arith, (ready (k + (n - 1)) (omega (arith, row.some)) (omega (arith, row.some))).below, row.some, ap (λ (p : Pool). p.next) row.is);
+  },
+)
 
 -- ---- allocators
 
@@ -161,7 +153,10 @@ inside_given c q k is same =
     subst P (sym same) (inside_on c (given_back c.pool k) is (pool_given c.pool k is.allocator.pool) refl refl refl
     (λ j high. still_out c.pool.spoken k j (is.allocator.unspoken j high)))
 
-pub inside_taken : (c : Inside) (q : Pool) (k : ℕ) → IsInside c → HasTaken c.pool q k → IsInside (record c { pool = q })
-inside_taken c q k is taken =
-    inside_on c q is (pool_taken c.pool q k is.allocator.pool taken) (ap (λ (x : Pool). x.bits) taken.is) (ap (λ (x : Pool). x.blocks) taken.is) (ap (λ (x : Pool). x.prepared) taken.is)
-    (taken_unspoken c.pool q k is.allocator.pool taken is.allocator.unspoken)
+pub inside_row : (c : Inside) (q : Pool) (k n : ℕ) → IsInside c → HasTakenRow c.pool q k n → ((j : ℕ) → k ≤ j → j < k + n → IsReady c.pool j) → IsPool q → IsInside (record c { pool = q })
+inside_row c q k n is row ready pool =
+    inside_on c q is pool (ap (λ (x : Pool). x.bits) row.is) (ap (λ (x : Pool). x.blocks) row.is) (ap (λ (x : Pool). x.prepared) row.is)
+    (λ j high. row.spoken.others j (inr (omega (arith, high, is.allocator.pool.order, row.some, (ready (k + (n - 1)) (omega (arith, row.some)) (omega (arith, row.some))).below))) ∙ is.allocator.unspoken j high)
+
+pub inside_taken : (c : Inside) (q : Pool) (k : ℕ) → IsInside c → HasTaken c.pool q k → IsReady c.pool k → IsPool q → IsInside (record c { pool = q })
+inside_taken c q k is taken ready = inside_row c q k 1 is (row_one c.pool q k taken) (λ j low high. subst (IsReady c.pool) (omega arith) ready)

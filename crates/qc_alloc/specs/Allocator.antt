@@ -6,7 +6,7 @@ use Rattle.bitmap_model.specs.Granules.{is_in}
 use Rattle.qc_layout.specs.Disks.{place_of}
 use Rattle.cluster_pool.specs.Pool.{Pool, IsPool, each, block_at}
 use Rattle.image_model.specs.Clusters.{Shape, IsShape, size, place, IsStanding}
-use Rattle.image_model.specs.Calls.{Told}
+use Rattle.image_model.specs.Calls.{Told, AreExactly}
 
 pub record Allocator : Type 0 where
   -- the image's file, and where its refcount table stands
@@ -57,3 +57,21 @@ pub record Allocates (s : Shape) (disks : List (List ℕ)) (first : ℕ) (a : Al
 pub record HandsOut (first : ℕ) (a : Allocator) : Type 0 where
   pub ready : All (λ k. first ≤ k) a.pool.ready
   pub fresh : first ≤ a.pool.next
+
+-- the image stands, the allocator knows it, and hands out clusters that are ready
+abbrev pub StandsFrom : Shape → List (List ℕ) → Allocator → World → Type 0
+StandsFrom s disks a w = (first : ℕ) × HandsOut first a × Allocates s disks first a w
+
+-- The allocator knows the file: the clusters that are referred to are just those that are spoken for, and the words of the refcount table are
+-- its blocks.
+pub record IsKnown (s : Shape) (a : Allocator) (file : List ℕ) : Type 0 where
+  pub exactly : AreExactly s (is_in a.pool.spoken) file
+  pub blocks : HasBlocks s a file
+
+-- They differ in what is spoken for and in what is ready alone.
+pub record DiffersInUse (a b : Allocator) : Type 0 where
+  pub file : b.file ≡ a.file
+  pub table : b.table ≡ a.table
+  pub bits : b.pool.bits ≡ a.pool.bits
+  pub blocks : b.pool.blocks ≡ a.pool.blocks
+  pub prepared : b.pool.prepared ≡ a.pool.prepared

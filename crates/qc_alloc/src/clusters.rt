@@ -1,15 +1,15 @@
 //! The allocator.
 
-ghost use Rattle.std.specs.Prelude.{◌≡◌, ◌≢◌, ◌⊎◌, ℕ, ◌+◌, ◌*◌, ◌^◌, ◌<◌, ◌≤◌, List, length, Some, None, IfErr, OnOk, OnErr, IsTrue};
+ghost use Rattle.std.specs.Prelude.{◌≡◌, ◌≢◌, ◌⊎◌, ℕ, ◌+◌, ◌*◌, ◌^◌, ◌<◌, ◌≤◌, List, length, Some, None, IfErr, OnOk, OnErr, IsTrue, slice_index};
 ghost use Rattle.bitmap_model.specs.Granules.{is_in};
 ghost use Rattle.qc_layout.specs.Disks.{place_of};
-ghost use Rattle.cluster_pool.specs.Pool.{IsPool, IsReady, room, fresh, claim_refusal, claimed, given_back, HasTaken};
+ghost use Rattle.cluster_pool.specs.Pool.{IsPool, IsReady, room, fresh, claim_refusal, claimed, given_back, HasTaken, HasTakenRow};
 ghost use Rattle.qc_alloc.specs.Allocator.{IsAllocator, HandsOut};
 ghost use Rattle.qc_alloc.specs.Opening.{rule_of};
 ghost use Rattle.qc_alloc.specs.Tables.{IsClaimFault};
 
 use crate::refusals::ClusterRefusal;
-use cluster_pool::Pool;
+use cluster_pool::{Neighbours, Pool};
 use disk_model::FileNo;
 use qc_layout::ImageFault;
 use std::marker::Model;
@@ -108,6 +108,30 @@ impl Clusters {
         ensures hands { (first : ℕ) → HandsOut first self.old → (first ≤ result) × HandsOut (result + 1) self.new }
     {
         self.pool.take_ready()
+    }
+
+    /// Takes the first ready cluster, and those behind it that are its neighbours, at most so many: each is counted once, zero, and synced so.
+    pub fn take_neighbours(&mut self, most: u64) -> Neighbours
+        requires ready { 0 < length self.old.pool.ready }
+        requires some { 0 < most }
+        ensures taken { HasTakenRow self.old.pool self.new.pool result.first result.count }
+        ensures most { result.count ≤ most }
+        ensures whole { result.count < most → slice_index self.new.pool.ready 0 ≢ result.first + result.count }
+        ensures ready { (k : ℕ) → result.first ≤ k → k < result.first + result.count → IsReady self.old.pool k }
+        ensures fresh { fresh self.new.pool ≡ fresh self.old.pool }
+        ensures room { room self.old.pool ≡ room self.new.pool + result.count }
+        ensures allocator { IsAllocator self.old }
+        ensures same { (self.new.file ≡ self.old.file) × (self.new.table ≡ self.old.table) }
+        ensures hands { (first : ℕ) → HandsOut first self.old → (first ≤ result.first) × HandsOut (result.first + result.count) self.new }
+    {
+        self.pool.take_neighbours(most)
+    }
+
+    /// Whether something refers to a cluster, or it was taken.
+    pub fn is_taken(&self, index: u64) -> bool
+        ensures { result ≡ is_in self.now.pool.spoken index }
+    {
+        self.pool.is_spoken(index)
     }
 
     /// Nothing refers any more to a cluster that was claimed or taken. One before the first fresh cluster isn't handed out again; one that

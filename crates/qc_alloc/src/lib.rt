@@ -13,5 +13,6 @@ mod refusals;
 mod settling;
 mod tables;
 
+pub use cluster_pool::Neighbours;
 pub use clusters::Clusters;
 pub use refusals::ClusterRefusal;

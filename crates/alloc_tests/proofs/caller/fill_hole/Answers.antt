@@ -5,8 +5,8 @@ use Rattle.cluster_pool.specs.Pool.{IsReady}
 use Rattle.image_model.specs.Clusters.{Shape, IsSafe, Moves, Reads}
 use Rattle.image_model.specs.Runs.{LeavesRest}
 use Rattle.image_steps.proofs.Storing.{rest_of}
-use Rattle.qc_alloc.specs.Allocator.{Allocator, Allocates, HandsOut}
-use Rattle.alloc_tests.specs.Caller.{IsHole, IsFull, StandsFrom}
+use Rattle.qc_alloc.specs.Allocator.{Allocator, Allocates, HandsOut, StandsFrom}
+use Rattle.alloc_tests.specs.Caller.{IsHole, IsFull}
 use Rattle.alloc_tests.proofs.Filling.{shift_at, grown_more, grown_leaves, speaks_raised, speaks_taken, speaks_given, taken_spoken, given_stands}
 use Rattle.alloc_tests.proofs.Filling.{filled_since, filled_stands, filled_leaves, filled_shows, filled_full, filled_stored}
 use Rattle.alloc_tests.proofs.caller.fill_hole.Given.{Over}

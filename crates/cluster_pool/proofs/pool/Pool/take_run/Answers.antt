@@ -1,22 +1,9 @@
-use Rattle.std.proofs.Common.{◌≡◌, ℕ, ◌+◌, ◌-◌, ◌≤◌, List, Bool, inl, inr, sym, ap, subst, ◌∙◌, arith}
-use Rattle.std.proofs.lemmas.Bool.{cases_eq}
-use Rattle.bitmap_model.specs.Granules.{is_in}
+use Rattle.std.proofs.Common.{◌≡◌, ℕ, ◌+◌, ◌-◌, List, Bool, sym, ap, subst, ◌∙◌, arith}
 use Rattle.cluster_pool.specs.Sets.{with_member}
 use Rattle.cluster_pool.specs.Pool.{Pool, HasAll}
-use Rattle.cluster_pool.proofs.Words.{length-with, is_in-with, is_in-with_other}
+use Rattle.cluster_pool.proofs.Rows.{has_more}
 use Rattle.cluster_pool.proofs.pool.Pool.take_run.Goals.{then-first-index, else-first-index}
 use Rattle.cluster_pool.proofs.pool.Pool.take_run.Goals as goal
-
-has_more : (old s : List Bool) (k i : ℕ) → k ≤ i → HasAll old s k (i - k) → HasAll old (with_member s i) k (i + 1 - k)
-has_more old s k i order h = record {
-  same_length = length-with s i ∙ h.same_length;
-  inside = λ j low high below. elim (cases_eq j i) [
-    | inl here ↦ ap (is_in (with_member s i)) here ∙ is_in-with s i (omega (arith, h.same_length))
-    | inr other ↦ is_in-with_other s i j other ∙ h.inside j low (omega arith) below
-  ];
-  others = λ j outside. is_in-with_other s i j (elim outside [ inl before ↦ omega arith | inr after ↦ omega arith ])
-      ∙ h.others j (elim outside [ inl before ↦ inl before | inr after ↦ inr (omega arith) ]);
-}
 
 pub loop-index-preserved : goal.loop-index-preserved
 loop-index-preserved c =
@@ -31,7 +18,7 @@ loop-index-preserved c =
           let is : c.pass.new.self ≡ record o { spoken = with_member o.spoken i; next = o.next + 1 } = passed ∙ ap (λ (q : Pool). record q { next = q.next + 1 }) spoke in
           let spoken : c.pass.new.self.spoken ≡ with_member o.spoken i = ap (λ (q : Pool). q.spoken) is in
           record {
-            spoken = subst (λ (s : List Bool). HasAll p.spoken s k (i + 1 - k)) (sym spoken) (has_more p.spoken o.spoken k i w.if-first-index.true c.loop-index.invariant.spoken);
+            spoken = subst (λ (s : List Bool). HasAll p.spoken s k (i + 1 - k)) (sym spoken) (has_more p.spoken o.spoken k i (i - k) (i + 1 - k) (omega (arith, w.if-first-index.true)) (omega (arith, w.if-first-index.true)) c.loop-index.invariant.spoken);
             is = is ∙ (ap (λ (q : Pool). record q { spoken = with_member o.spoken i; next = q.next + 1 }) c.loop-index.invariant.is ∙ ap (λ (s : List Bool). record p { spoken = s; next = i + 1 }) (sym spoken));
           }
       | else-first-index w ↦
