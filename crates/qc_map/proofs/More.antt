@@ -20,6 +20,8 @@ use Rattle.qc_map.specs.Needing.{is_open, part_need}
 use Rattle.qc_map.specs.Reading.{IsRow}
 use Rattle.qc_map.specs.Telling.{IsRowAt, flags_of}
 use Rattle.std.proofs.lemmas.List.{length-map, get_or-map}
+use Rattle.std.proofs.lemmas.List.FromFn.{length-range_with_len}
+use Rattle.std.proofs.lemmas.List.Sums.{count_by-le-length}
 use Rattle.qc_map.proofs.Going.{IsNext}
 use Rattle.qc_map.proofs.Places.{div_is, div_less}
 use Rattle.qc_map.proofs.Tallies.{any_same, any_none, any_at, counted_none, counted_same, counted_row}
@@ -29,7 +31,7 @@ range at n = record { at = at; size = n }
 
 -- ---- which clusters, of c bytes, a range meets
 
-meets_not : (at n k c : ℕ) → (n ≡ 0) ⊎ (at + n ≤ k * c) → meets (range at n) (granule c k) ≡ false
+pub meets_not : (at n k c : ℕ) → (n ≡ 0) ⊎ (at + n ≤ k * c) → meets (range at n) (granule c k) ≡ false
 meets_not at n k c apart = le-ltb (max at (k * c)) (min (at + n) (k * c + c)) (⊎_elim (λ (none : n ≡ 0). omega arith) (λ (past : at + n ≤ k * c). omega arith) apart)
 
 meets_it : (at n k c : ℕ) → 0 < n → 0 < c → at < k * c + c → k * c < at + n → meets (range at n) (granule c k) ≡ true
@@ -44,14 +46,19 @@ and_false true = refl
 and_false false = refl
 
 -- nothing is needed for no bytes
+cluster_none : (store : Store) (at k : ℕ) → needs_cluster store (range at 0) k ≡ false
+cluster_none store at k = ap (λ (b : Bool). b && not (is_data (kind_at store k))) (meets_not at 0 k store.cluster (inl refl))
+
+pub table_none : (store : Store) (at t : ℕ) → needs_table store (range at 0) t ≡ false
+table_none store at t =
+    ap (λ (x : Bool). not (is_in store.tables t) && x) (any_none (λ k. needs_cluster store (range at 0) k && (table_of store k == t)) 0 (length store.kinds) (λ k low high. ap (λ (x : Bool). x && (table_of store k == t)) (cluster_none store at k)))
+    ∙ and_false (not (is_in store.tables t))
+
 pub need_none : (store : Store) (at : ℕ) → need store (range at 0) ≡ 0
 unfolding need
 need_none store at =
-    let none : (k : ℕ) → needs_cluster store (range at 0) k ≡ false = λ k. ap (λ (b : Bool). b && not (is_data (kind_at store k))) (meets_not at 0 k store.cluster (inl refl)) in
-    let a = counted_none (needs_cluster store (range at 0)) (length store.kinds) (λ k less. none k) in
-    let b = counted_none (needs_table store (range at 0)) (length store.tables) (λ t less.
-    ap (λ (x : Bool). not (is_in store.tables t) && x) (any_none (λ k. needs_cluster store (range at 0) k && (table_of store k == t)) 0 (length store.kinds) (λ k low high. ap (λ (x : Bool). x && (table_of store k == t)) (none k)))
-    ∙ and_false (not (is_in store.tables t))) in
+    let a = counted_none (needs_cluster store (range at 0)) (length store.kinds) (λ k less. cluster_none store at k) in
+    let b = counted_none (needs_table store (range at 0)) (length store.tables) (λ t less. table_none store at t) in
     omega (arith, a, b)
 
 -- ---- what a row says
@@ -114,7 +121,7 @@ module _ (s : Shape) (file : List ℕ) (total : ℕ) (store : Store) (has : HasS
       let g : (first + m) * c ≡ first * c + c * m = grind arith in
       omega (arith, g, begins, part.inside, has.cluster)
 
-  not_yet : (k : ℕ) → first ≤ k → meets old (granule c k) ≡ false
+  pub not_yet : (k : ℕ) → first ≤ k → meets old (granule c k) ≡ false
   not_yet k more = elim next [
     | inl none ↦ meets_not at n k c (inl none)
     | inr border ↦ meets_not at n k c (inr (let e : c * first ≤ c * k = mul-le-mul_left c more in omega (arith, e, mul_comm c first, mul_comm c k, begins, border.1)))
@@ -151,18 +158,20 @@ module _ (s : Shape) (file : List ℕ) (total : ℕ) (store : Store) (has : HasS
         ∙ ap allocation_flags (kind_in m less ∙ ap kind_of (sym (is.each m less)));
   }
 
+  pub touch_in : (m : ℕ) → m < p.count → meets new (granule c (first + m)) ≡ true
+  touch_in m less = meets_it at (n + p.length) (first + m) c (omega (arith, part.some)) (omega (arith, has.cluster, some)) (omega (arith, in_end m)) (omega (arith, in_start m less))
+
   need_in : (m : ℕ) → m < p.count → needs_cluster store new (first + m) ≡ is_open s file p.table (p.slot + m)
-  need_in m less =
-      ap (λ (b : Bool). b && not (is_data (kind_at store (first + m))))
-      (meets_it at (n + p.length) (first + m) c (omega (arith, part.some)) (omega (arith, has.cluster, some)) (omega (arith, in_end m)) (omega (arith, in_start m less)))
-      ∙ ap (λ k. not (is_data k)) (kind_in m less)
+  need_in m less = ap (λ (b : Bool). b && not (is_data (kind_at store (first + m)))) (touch_in m less) ∙ ap (λ k. not (is_data k)) (kind_in m less)
 
   need_not : (k : ℕ) → first ≤ k → needs_cluster store old k ≡ false
   need_not k more = ap (λ (b : Bool). b && not (is_data (kind_at store k))) (not_yet k more)
 
+  pub touch_out : (k : ℕ) → (k < first) ⊎ (first + p.count ≤ k) → meets new (granule c k) ≡ meets old (granule c k)
+  touch_out k out = meets_same at n p.length k c (⊎_elim (λ (less : k < first). inl (low_end k less)) (λ (more : first + p.count ≤ k). inr (high_start k more)) out)
+
   need_out : (k : ℕ) → (k < first) ⊎ (first + p.count ≤ k) → needs_cluster store new k ≡ needs_cluster store old k
-  need_out k out = ap (λ (b : Bool). b && not (is_data (kind_at store k)))
-      (meets_same at n p.length k c (⊎_elim (λ (less : k < first). inl (low_end k less)) (λ (more : first + p.count ≤ k). inr (high_start k more)) out))
+  need_out k out = ap (λ (b : Bool). b && not (is_data (kind_at store k))) (touch_out k out)
 
   more_clusters : count_by (needs_cluster store new) (clusters store) ≡ count_by (needs_cluster store old) (clusters store) + count_by (λ m. is_open s file p.table (p.slot + m)) (range_with_len 0 p.count)
   more_clusters = counted_row (needs_cluster store new) (needs_cluster store old) (λ m. is_open s file p.table (p.slot + m)) first p.count (λ m less. (need_in m less, need_not (first + m) (omega arith))) need_out (length store.kinds) count_in
@@ -172,7 +181,7 @@ module _ (s : Shape) (file : List ℕ) (total : ℕ) (store : Store) (has : HasS
   entries : c / 8 ≡ per s
   entries = omega (arith, has.cluster)
 
-  other_table : (t : ℕ) → t ≢ p.table → needs_table store new t ≡ needs_table store old t
+  pub other_table : (t : ℕ) → t ≢ p.table → needs_table store new t ≡ needs_table store old t
   other_table t other = ap (λ (b : Bool). not (is_in store.tables t) && b)
       (any_same (λ k. needs_cluster store new k && (table_of store k == t)) (λ k. needs_cluster store old k && (table_of store k == t)) 0 (length store.kinds) (λ k low high. by_place k (cases_lt k first) (cases_lt k (first + p.count))))
     where
@@ -187,7 +196,7 @@ module _ (s : Shape) (file : List ℕ) (total : ℕ) (store : Store) (has : HasS
           let no : (k / (c / 8) == t) ≡ false = ne_eqb (k / (c / 8)) t (λ e. other (sym e ∙ at_table)) in
           ap (λ (b : Bool). needs_cluster store new k && b) no ∙ and_false (needs_cluster store new k) ∙ sym (ap (λ (b : Bool). needs_cluster store old k && b) no ∙ and_false (needs_cluster store old k))
 
-  table_in : p.table < length store.tables
+  pub table_in : p.table < length store.tables
   table_in = elim (cases_lt p.table (length store.tables)) [
     | inl is ↦ is
     | inr more ↦ absurd (
@@ -195,7 +204,7 @@ module _ (s : Shape) (file : List ℕ) (total : ℕ) (store : Store) (has : HasS
         omega (arith, reach, count_in, count_some))
   ]
 
-  not_before : needs_table store old p.table ≡ false
+  pub not_before : needs_table store old p.table ≡ false
   not_before = ap (λ (b : Bool). not (is_in store.tables p.table) && b)
       (any_none (λ k. needs_cluster store old k && (table_of store k == p.table)) 0 (length store.kinds) (λ k low high. by_place k (cases_lt k first)))
       ∙ and_false (not (is_in store.tables p.table))
@@ -220,7 +229,7 @@ module _ (s : Shape) (file : List ℕ) (total : ℕ) (store : Store) (has : HasS
   zero_open = ap (λ (o : ℕ). not (is_data (if o == 0 then Hole else if 0 % 2 == 0 then Data else Zeroed))) offset_none
 
   -- its first cluster is open where it isn't there
-  needs_own : needs_table store new p.table ≡ not (has_table s file p.table)
+  pub needs_own : needs_table store new p.table ≡ not (has_table s file p.table)
   needs_own = by_table (has_table s file p.table) (has.tables p.table table_in) refl
     where
       by_table : (b : Bool) → is_in store.tables p.table ≡ has_table s file p.table → has_table s file p.table ≡ b → needs_table store new p.table ≡ not b
@@ -252,3 +261,14 @@ module _ (s : Shape) (file : List ℕ) (total : ℕ) (store : Store) (has : HasS
   pub need_more : need store new ≡ need store old + part_need s file p.table p.slot p.count
   unfolding need
   need_more = omega (arith, more_clusters, more_tables)
+
+-- one cluster for each of the disk's, and one for each table, would do for any write
+pub need_within : (s : Shape) (file : List ℕ) (total : ℕ) (store : Store) (e : Extent) → HasStore s total file store → need store e ≤ granules_in total (size s) + granules_in (granules_in total (size s)) (per s)
+unfolding need
+need_within s file total store e has =
+    let kinds = count_by-le-length (needs_cluster store e) (clusters store) in
+    let tables = count_by-le-length (needs_table store e) (range_with_len 0 (length store.tables)) in
+    let many = length-range_with_len 0 (length store.kinds) in
+    let few = length-range_with_len 0 (length store.tables) in
+    let table_count : length store.tables ≡ granules_in (granules_in total (size s)) (per s) = has.table_count ∙ ap (λ (n : ℕ). granules_in n (per s)) has.kind_count in
+    omega (arith, kinds, tables, many, few, has.kind_count, table_count)

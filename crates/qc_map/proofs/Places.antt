@@ -108,7 +108,7 @@ part_for m at length p mapping inside is =
 -- ---- any shape of the map has its disk
 
 module _ (s : Shape) (m : Mapping) (mapping : IsMapping m) (is : IsMapOf s m) where
-  sectors : (shape_by m).sectors ≡ s.sectors
+  pub sectors : (shape_by m).sectors ≡ s.sectors
   sectors = omega (arith, cluster_by m mapping, is.cluster)
 
   first_level : (shape_by m).l1 ≡ s.l1

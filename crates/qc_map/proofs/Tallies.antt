@@ -26,7 +26,7 @@ any_at p n k inside is =
 
 -- ---- how many pass
 
-one_more : (p : ℕ → Bool) (n j : ℕ) → j ≡ n + 1 → count_by p (range_with_len 0 j) ≡ count_by p (range_with_len 0 n) + cond (p n) 1 0
+pub one_more : (p : ℕ → Bool) (n j : ℕ) → j ≡ n + 1 → count_by p (range_with_len 0 j) ≡ count_by p (range_with_len 0 n) + cond (p n) 1 0
 one_more p n j is =
     let same : 0 + n ≡ n = omega arith in
     ap (λ (k : ℕ). count_by p (range_with_len 0 k)) is ∙ counted_more p 0 n ∙ ap (λ (k : ℕ). count_by p (range_with_len 0 n) + cond (p k) 1 0) same

@@ -1,6 +1,12 @@
+pub mod Altering
+pub mod Changing
+pub mod Failures
+pub mod Filling
 pub mod Inside
 pub mod Laws
+pub mod Linking
 pub mod Mapping
 pub mod Needing
 pub mod Reading
 pub mod Telling
+pub mod Zeroing

@@ -70,6 +70,7 @@ impl Layout {
         requires long { length row.old ≡ 8 * part.now.count }
         ensures row { OnOk result (Gives (file_of (D.world depot.old) self.file.0) (λ c. IsRow (shape_by (mapping self)) c part.now.table part.now.slot part.now.count row.new)) }
         ensures table { IfOk result (λ at. Gives (file_of (D.world depot.old) self.file.0) (λ c. at ≡ offset (u64_at c (self.first_level + 8 * part.now.table)))) }
+        ensures near { IfOk result (λ at. at < 2 ^ 56) }
         ensures looks { Looks self.file.0 (D.world depot.old) (D.world depot.new) result }
     {
         let table = self.table_at(depot, part.table)?;

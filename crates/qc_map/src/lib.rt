@@ -4,6 +4,8 @@
 //! at a time, so slots of cached tables may stand behind it later. No call takes memory but the one that makes a map.
 #![tactic(auto)]
 
+mod failures;
+mod filling;
 pub mod laws;
 mod layout;
 mod map;
@@ -11,6 +13,8 @@ mod needing;
 mod opening;
 mod reading;
 mod telling;
+mod writing;
 
+pub use failures::{Failing, NotWritten};
 pub use map::Map;
 pub use map_opening::MapRefusal;

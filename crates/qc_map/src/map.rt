@@ -1,20 +1,29 @@
 //! The map.
 
-ghost use Rattle.std.specs.Prelude.{◌≡◌, ◌+◌, ◌<◌, ◌≤◌, ◌++◌, length, vec_len, vec_capacity, IfOk, OnOk};
+ghost use Rattle.std.specs.Prelude.{◌≡◌, ◌≢◌, ℕ, ◌+◌, ◌<◌, ◌≤◌, ◌++◌, List, length, vec_len, vec_capacity, Err, IfOk, OnOk, IsTrue};
 ghost use Rattle.bitmap_model.specs.Runs.{first_runs, runs_of};
 ghost use Rattle.disk_model.specs.Files.{reading};
 ghost use Rattle.file_device.specs.Calls.{Looks};
 ghost use Rattle.file_device.specs.File.{file_of, Gives};
-ghost use Rattle.image_model.specs.Clusters.{Shape, size};
+ghost use Rattle.cluster_pool.specs.Pool.{room};
+ghost use Rattle.image_model.specs.Clusters.{Shape, size, Reads};
 ghost use Rattle.image_model.specs.Disks.{disk_of};
 ghost use Rattle.image_model.specs.Space.{Store, need};
 ghost use Rattle.map_rows.specs.Stores.{HasStore};
+ghost use Rattle.qc_alloc.specs.Allocator.{Allocates, HandsOut};
+ghost use Rattle.qc_map.specs.Altering.{IsSameImage, UsesUpTo, KnowsOn, Always};
+ghost use Rattle.qc_map.specs.Changing.{Changes, HasChanged, write_of, extent_of};
+ghost use Rattle.qc_map.specs.Failures.{Went, failure};
 ghost use Rattle.qc_map.specs.Mapping.{IsMapping, IsMapOf, mapping_of};
 ghost use Rattle.qc_map.specs.Telling.{flags_of};
+ghost use Rattle.qc_map.specs.declared.failures.Failing.TheVariants as failing;
+ghost use Rattle.qc_map.specs.declared.failures.NotWritten.TheVariants as failures;
 
+use crate::failures::NotWritten;
 use crate::layout::Layout;
 use disk_model::{Depot, Failed, FileNo};
 use map_rows::cluster_of;
+use qc_alloc::Clusters;
 use qc_layout::Header;
 use span_algebra::Runs;
 use std::alloc::{AllocError, Global};
@@ -53,7 +62,8 @@ impl Map {
             first_level: fields.l1_table_offset,
             tables: u64::from(fields.l1_size),
         };
-        let entries = vec![in alloc; 0u8; cluster_of(layout.cluster_bits) as usize]?;
+        let cluster = cluster_of(layout.cluster_bits) as usize;
+        let entries = vec![in alloc; 0u8; cluster]?;
         Ok(Map { layout, entries })
     }
 
@@ -112,5 +122,48 @@ impl Map {
     {
         let layout = self.layout;
         layout.kinds(depot, &mut self.entries, at, length, out)
+    }
+
+    /// Writes bytes to the guest's disk. Where clusters are stored, data is written over them; in the place of holes and zeros it is written into
+    /// ready clusters, which are named after. `NoRoom` comes exactly where more clusters are needed than can be handed out; nothing is done then.
+    pub fn write<D: Depot>(
+        &mut self,
+        depot: &mut D,
+        clusters: &mut Clusters,
+        at: u64,
+        bytes: &[u8],
+    ) -> Result<(), NotWritten>
+        requires given { self.old.file < (D.world depot.old).given }
+        requires file { clusters.old.file ≡ self.old.file }
+        requires bits { clusters.old.pool.bits ≡ self.old.bits }
+        requires inside { at + length bytes.now ≤ self.old.size }
+
+        // Whatever it answers, the image goes on to stand, each crash since leaves a file that an opening takes, and each sector of the disk, each
+        // kind and each table is as it was or as after all of the write.
+        ensures changes { Changes self.old (write_of at bytes.now) clusters.old clusters.new (D.world depot.old) (D.world depot.new) }
+        ensures done { OnOk result (HasChanged self.old (write_of at bytes.now) clusters.old (D.world depot.old) (D.world depot.new)) }
+
+        // After Ok as many clusters were used as were needed; whatever it answers no more were.
+        ensures room { OnOk result ((s : Shape) (disks : List (List ℕ)) (first : ℕ) → IsMapOf s self.old → HandsOut first clusters.old →
+            Reads self.old.file (Allocates s disks first clusters.old) (λ old new. (store : Store) → HasStore s self.old.size old store → room clusters.new.pool + need store (extent_of at bytes.now) ≡ room clusters.old.pool)
+            (D.world depot.old) (D.world depot.new)) }
+        ensures uses { (s : Shape) (disks : List (List ℕ)) (first : ℕ) → IsMapOf s self.old → HandsOut first clusters.old →
+            Reads self.old.file (Allocates s disks first clusters.old) (λ old new. (store : Store) → HasStore s self.old.size old store → UsesUpTo clusters.old clusters.new (need store (extent_of at bytes.now)))
+            (D.world depot.old) (D.world depot.new) }
+        ensures short { result ≡ Err failures.NoRoom → (s : Shape) (disks : List (List ℕ)) (first : ℕ) → IsMapOf s self.old → HandsOut first clusters.old →
+            Reads self.old.file (Allocates s disks first clusters.old) (λ old new. (store : Store) → HasStore s self.old.size old store → room clusters.old.pool < need store (extent_of at bytes.now))
+            (D.world depot.old) (D.world depot.new) }
+        ensures kept { result ≡ Err failures.NoRoom → (s : Shape) (disks : List (List ℕ)) (first : ℕ) → IsMapOf s self.old → HandsOut first clusters.old →
+            Allocates s disks first clusters.old (D.world depot.old) → IsTrue (D.world depot.old).tells →
+            (clusters.new ≡ clusters.old) × (file_of (D.world depot.new) self.old.file ≡ file_of (D.world depot.old) self.old.file) }
+
+        // Unless a write of tables failed, the clusters that are referred to are just those that are spoken for, where they were before.
+        ensures known { result ≢ Err (failures.Failed failing.Tables) → KnowsOn self.old Always clusters.old clusters.new (D.world depot.old) (D.world depot.new) }
+        ensures image { IsSameImage clusters.old clusters.new }
+        ensures same { self.new ≡ self.old }
+        ensures went { Went self.old.file (D.world depot.old) (D.world depot.new) (failure result) }
+    {
+        let layout = self.layout;
+        layout.write(depot, clusters, &mut self.entries, at, bytes)
     }
 }
