@@ -26,8 +26,8 @@ use Rattle.qc_map.specs.Altering.{Alteration, stores, UsesUpTo, IsAltered, IsPar
 use Rattle.qc_map.specs.Filling.{IsNamedIn, NamesBelow, ChangesSpoken, AreGiven, AreFreed}
 use Rattle.qc_map.specs.Mapping.{Mapping, IsMapping, IsMapOf}
 use Rattle.qc_map.proofs.Given.{spoken_differs}
-use Rattle.qc_map.proofs.Named.{place_times, place_after, open_host, named_by, named_in}
-use Rattle.qc_map.proofs.Over.{known_same, table_same, tables_cover, stored_kind}
+use Rattle.qc_map.proofs.Named.{place_times, open_host, named_by, named_in}
+use Rattle.qc_map.proofs.Over.{known_same, place_after, row_ends, table_same, tables_cover, stored_kind}
 use Rattle.qc_map.proofs.Steps.{IsWider, cut_disk, cut_mix}
 
 -- ---- numbers
@@ -55,17 +55,6 @@ module _ (bits count from end long length_piece : ℕ) (high : bits ≤ 21) (som
       let pow : 2 ^ bits ≤ 2 ^ 21 = pow-le-pow_right {n = 2} (omega arith) {i = bits} {j = 21} high in
       let most : count * 2 ^ bits ≤ 64 * 2097152 = mul-le-mul {n₁ = count} {m₁ = 2 ^ bits} {n₂ = 64} {m₂ = 2097152} few pow in
       omega (arith, most, piece_within, mul_comm count (2 ^ bits))
-
--- bytes of n clusters lie in all tables
-row_fits : (t p z i j n y : ℕ) → i < t → j + n ≤ p → y ≤ z * n → (i * p + j) * z + y ≤ t * p * z
-row_fits t p z i j n y i_in slots few =
-    let e : p * (i + 1) ≤ p * t = mul-le-mul_left p (omega (arith, i_in)) in
-    let f : p * (i + 1) ≡ i * p + p = grind arith in
-    let g : p * t ≡ t * p = grind arith in
-    let h : z * (i * p + (j + n)) ≤ z * (t * p) = mul-le-mul_left z (omega (arith, e, f, g, slots)) in
-    let l : z * (i * p + (j + n)) ≡ (i * p + j) * z + z * n = grind arith in
-    let r : z * (t * p) ≡ t * p * z = grind arith in
-    omega (arith, h, l, r, few)
 
 abbrev pub piece_of : ℕ → ℕ → ℕ → ℕ → List ℕ → Alteration
 piece_of i j n from bytes = record { table = i; slot = j; count = n; from = from; bytes = bytes; goal = stores }
@@ -232,14 +221,14 @@ module _ {m : Mapping} {a0 a1 : Allocator} {spot total k n at from : ℕ} {row w
     span told =
         let has = known told in
         let slots : j + n ≤ per s = omega (arith, has.slots, f.few) in
-        let fits = row_fits s.tables (per s) (size s) i j n (from + length piece) has.linked.inside slots within in
+        let fits = row_ends (per s) (size s) i j n s.tables has.linked.inside slots in
         record {
           range = record { shape = is.shape; covers = omega arith; index = has.linked.inside; slots = slots };
           some = some_k told;
           low = omega (arith, at_place);
           high = high;
           is = omega (arith, at_place);
-          inside = omega (arith, fits);
+          inside = omega (arith, fits, within, mul_comm (size s) n);
         }
 
     data_kind : (told : IsTrue w0.tells) (x word : ℕ) → IsStored s i (j + x) (k + x) word at piece (w1.seen m.file) → kind_of (word_of s (w1.seen m.file) i (j + x)) ≡ Data

@@ -106,3 +106,15 @@ spoken_differs a b G is = record {
   blocks = ap (λ (x : Allocator). x.pool.blocks) is.is;
   prepared = ap (λ (x : Allocator). x.pool.prepared) is.is;
 }
+
+pub nothing_differs : (a : Allocator) → DiffersInUse a a
+nothing_differs a = record { file = refl; table = refl; bits = refl; blocks = refl; prepared = refl }
+
+pub differs_on : {a b c : Allocator} → DiffersInUse a b → DiffersInUse b c → DiffersInUse a c
+differs_on first second = record {
+  file = second.file ∙ first.file;
+  table = second.table ∙ first.table;
+  bits = second.bits ∙ first.bits;
+  blocks = second.blocks ∙ first.blocks;
+  prepared = second.prepared ∙ first.prepared;
+}

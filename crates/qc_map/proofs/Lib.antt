@@ -21,3 +21,4 @@ pub mod Storing
 pub mod Tallies
 pub mod Topped
 pub mod Words
+pub mod Zeroed

@@ -17,10 +17,6 @@ pub place_times : (s : Shape) (k : ℕ) → place s k ≡ k * size s + 0
 unfolding place
 place_times s k = grind arith
 
-pub place_after : (s : Shape) (k m : ℕ) → place s (k + m) ≡ place s k + m * size s
-unfolding place
-place_after s k m = grind arith
-
 -- an entry that has no bytes stored
 pub open_stored : (w : ℕ) → IsTrue (not (is_data (kind_of w))) → stored w ≡ 0
 open_stored w is_open = elim (cases_eq (stored w) 0) [

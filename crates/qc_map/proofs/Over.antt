@@ -62,12 +62,12 @@ table_same s a old new same had x x_in = ⊎_elim
 
 -- ---- numbers
 
-place_after : (s : Shape) (k t : ℕ) → place s (k + t) ≡ place s k + t * size s
+pub place_after : (s : Shape) (k t : ℕ) → place s (k + t) ≡ place s k + t * size s
 unfolding place
 place_after s k t = grind arith
 
 -- clusters of a table end where all tables end, or before
-row_ends : (p z a b n all : ℕ) → a < all → b + n ≤ p → (a * p + b) * z + n * z ≤ all * p * z
+pub row_ends : (p z a b n all : ℕ) → a < all → b + n ≤ p → (a * p + b) * z + n * z ≤ all * p * z
 row_ends p z a b n all a_in slots =
     let e : p * (a + 1) ≤ p * all = mul-le-mul_left p (omega (arith, a_in)) in
     let f : p * (a + 1) ≡ a * p + p = grind arith in
@@ -277,3 +277,7 @@ module _ {m : Mapping} (spot i j n first count host from at : ℕ) (row bytes : 
     known = λ s disks low is hands known al told knows.
         known_same s p (x.seen m.file) (y.seen m.file) is.shape.some (same s disks low is known al told).0 (same s disks low is known al told).1 (each_word s disks low is known al told) knows;
   }
+
+  -- the words of the first level
+  pub over_tables : (s : Shape) (disks : List (List ℕ)) (low : ℕ) → IsMapOf s m → ToldRow m spot i j n row s x → Reads m.file (Allocates s disks low p) (SameTables s) x y
+  over_tables s disks low is known al told = (same s disks low is known al told).0

@@ -38,10 +38,6 @@ cluster_small m is = let most : 2 ^ m.bits ≤ 2 ^ 21 = pow-le-pow_right {n = 2}
 pub cluster_some : (m : Mapping) → IsMapping m → 0 < (shape_by m).sectors
 cluster_some m is = let more : 2 ^ 9 ≤ 2 ^ m.bits = pow-le-pow_right {n = 2} (omega arith) {i = 9} {j = m.bits} is.low in omega (arith, cluster_by m is, more)
 
-tables_by : (m : Mapping) → (shape_by m).tables ≡ m.tables
-unfolding shape_by
-tables_by m = refl
-
 -- ---- quotients and what is left
 
 pub div_is : (x g k t : ℕ) → x ≡ k * g + t → t < g → x / g ≡ k

@@ -514,9 +514,6 @@ went_on {f} {x} {y} {z} {failed} first second = record {
 pub went_ok : {T E : Type 0} {f : ℕ} {x y : World} {value : T} → Calls {T = T} {E = E} f x y (Ok value) → Went f x y None
 went_ok calls = record { run = calls.run; quiet = λ same. calls.quiet; cause = λ other. absurd (other refl); tables = λ same. absurd (cc) }
 
-pub went_data : {T E : Type 0} {f : ℕ} {x y : World} {error : E} → Calls {T = T} {E = E} f x y (Err error) → Went f x y (Some Data)
-went_data calls = record { run = calls.run; quiet = λ same. absurd (cc); cause = λ other. calls.cause; tables = λ same. absurd (cc) }
-
 pub went_tables : {T E : Type 0} {f : ℕ} {x y : World} {error : E} → Puts {T = T} {E = E} f x y (Err error) → Went f x y (Some Tables)
 went_tables puts = record { run = puts.calls.run; quiet = λ same. absurd (cc); cause = λ other. puts.calls.cause; tables = λ same. puts.cause }
 

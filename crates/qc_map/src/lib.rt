@@ -14,6 +14,7 @@ mod opening;
 mod reading;
 mod telling;
 mod writing;
+mod zeroing;
 
 pub use failures::{Failing, NotWritten};
 pub use map::Map;

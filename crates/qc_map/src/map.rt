@@ -10,16 +10,17 @@ ghost use Rattle.image_model.specs.Clusters.{Shape, size, Reads};
 ghost use Rattle.image_model.specs.Disks.{disk_of};
 ghost use Rattle.image_model.specs.Space.{Store, need};
 ghost use Rattle.map_rows.specs.Stores.{HasStore};
-ghost use Rattle.qc_alloc.specs.Allocator.{Allocates, HandsOut};
+ghost use Rattle.qc_alloc.specs.Allocator.{Allocates, HandsOut, DiffersInUse};
 ghost use Rattle.qc_map.specs.Altering.{IsSameImage, UsesUpTo, KnowsOn, Always};
-ghost use Rattle.qc_map.specs.Changing.{Changes, HasChanged, write_of, extent_of};
-ghost use Rattle.qc_map.specs.Failures.{Went, failure};
+ghost use Rattle.qc_map.specs.Changing.{Changes, HasChanged, write_of, zero_of, extent_of};
+ghost use Rattle.qc_map.specs.Failures.{Went, failure, failure_of};
 ghost use Rattle.qc_map.specs.Mapping.{IsMapping, IsMapOf, mapping_of};
 ghost use Rattle.qc_map.specs.Telling.{flags_of};
+ghost use Rattle.qc_map.specs.Zeroing.{SameRoom};
 ghost use Rattle.qc_map.specs.declared.failures.Failing.TheVariants as failing;
 ghost use Rattle.qc_map.specs.declared.failures.NotWritten.TheVariants as failures;
 
-use crate::failures::NotWritten;
+use crate::failures::{Failing, NotWritten};
 use crate::layout::Layout;
 use disk_model::{Depot, Failed, FileNo};
 use map_rows::cluster_of;
@@ -35,6 +36,8 @@ pub struct Map {
     layout: Layout,
     // Words of one table, as they were read last: a cluster long.
     entries: Vec<u8>,
+    // As many zeros.
+    zeros: Vec<u8>,
 }
 
 impl Model for Map {
@@ -64,7 +67,12 @@ impl Map {
         };
         let cluster = cluster_of(layout.cluster_bits) as usize;
         let entries = vec![in alloc; 0u8; cluster]?;
-        Ok(Map { layout, entries })
+        let zeros = vec![in alloc; 0u8; cluster]?;
+        Ok(Map {
+            layout,
+            entries,
+            zeros,
+        })
     }
 
     /// Bytes of the guest's disk.
@@ -165,5 +173,32 @@ impl Map {
     {
         let layout = self.layout;
         layout.write(depot, clusters, &mut self.entries, at, bytes)
+    }
+
+    /// Zeroes bytes of the guest's disk. Clusters that are covered whole become holes, the last one where what lies on the disk is covered; in others
+    /// zeros are written where bytes are stored. No cluster is needed.
+    pub fn zero<D: Depot>(
+        &mut self,
+        depot: &mut D,
+        clusters: &mut Clusters,
+        at: u64,
+        length: u64,
+    ) -> Result<(), Failing>
+        requires given { self.old.file < (D.world depot.old).given }
+        requires file { clusters.old.file ≡ self.old.file }
+        requires bits { clusters.old.pool.bits ≡ self.old.bits }
+        requires inside { at + length ≤ self.old.size }
+
+        // Whatever it answers, as of a write.
+        ensures changes { Changes self.old (zero_of self.old.size at length) clusters.old clusters.new (D.world depot.old) (D.world depot.new) }
+        ensures done { OnOk result (HasChanged self.old (zero_of self.old.size at length) clusters.old (D.world depot.old) (D.world depot.new)) }
+        ensures room { SameRoom self.old clusters.old clusters.new (D.world depot.old) }
+        ensures known { result ≢ Err failing.Tables → KnowsOn self.old Always clusters.old clusters.new (D.world depot.old) (D.world depot.new) }
+        ensures image { DiffersInUse clusters.old clusters.new }
+        ensures same { self.new ≡ self.old }
+        ensures went { Went self.old.file (D.world depot.old) (D.world depot.new) (failure_of result) }
+    {
+        let layout = self.layout;
+        layout.zero(depot, clusters, &mut self.entries, &self.zeros, at, length)
     }
 }
