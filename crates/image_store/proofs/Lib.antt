@@ -1,0 +1,12 @@
+mod Orders
+mod Stood
+mod Called
+mod Closed
+mod Flushed
+mod Taken
+mod Begun
+mod Behind
+mod Drawn
+mod Epochs
+mod Adopted
+mod Sector

@@ -1,0 +1,90 @@
+-- A source's image: what is known of it, and what a file that is one says.
+use Rattle.std.specs.Prelude.{◌≡◌, ℕ, List, length, All, Contains, Option, None, IsTrue}
+use Rattle.disk_model.specs.World.{World, EachNow}
+use Rattle.qc_layout.specs.declared.header.Header.{Header}
+use Rattle.qc_layout.specs.declared.header.Own.TheVariants as owns
+use Rattle.qc_layout.specs.declared.header.Part.TheVariants as parts
+use Rattle.qc_layout.specs.Header.{fields_of}
+use Rattle.qc_layout.specs.Directory.{directory_in}
+use Rattle.qc_layout.specs.Laws.{StoresNothing}
+use Rattle.qc_layout.specs.Room.{HasRoom}
+use Rattle.qc_layout.specs.Spelling.{IsHeaderOf}
+use Rattle.cluster_pool.specs.Pool.{room}
+use Rattle.image_model.specs.Clusters.{Shape}
+use Rattle.image_model.specs.Calls.{Told}
+use Rattle.image_model.specs.Disks.{disk_of, IsMixedOf}
+use Rattle.image_model.specs.Images.{IsSourceOf}
+use Rattle.image_model.specs.Space.{Store, IsShapedStore}
+use Rattle.map_rows.specs.Stores.{HasStore}
+use Rattle.qc_alloc.specs.Allocator.{Allocator, StandsFrom, IsKnown}
+use Rattle.qc_map.specs.Mapping.{Mapping, IsMapOf, shape_by}
+
+-- What is known of a source.
+pub record Image : Type 0 where
+  -- its disk's id, and the epoch that its opening drew
+  pub id : List ℕ
+  pub epoch : ℕ
+  pub map : Mapping
+  pub clusters : Allocator
+  -- the event that is carried out, and the one in which the source broke
+  pub event : ℕ
+  pub broken : Option ℕ
+
+abbrev pub file_of : Image → ℕ
+file_of i = i.map.file
+
+-- ---- files
+
+-- A file is a source in order, without bitmaps: it passes the rules of an opening, and stands for this disk, with this id and epoch.
+pub record IsInOrder (id : List ℕ) (epoch : ℕ) (disk file : List ℕ) : Type 0 where
+  pub store : Store
+  pub source : IsSourceOf file disk id epoch store
+  pub room : HasRoom file store.room
+  pub shape : IsShapedStore (length disk) store
+  pub bare : directory_in file ≡ None
+  pub none : StoresNothing file
+
+-- A crash within a session leaves this: a source in order, each sector of its disk that of one of these disks.
+pub record IsMixture (id : List ℕ) (epoch : ℕ) (mixed : List (List ℕ)) (file : List ℕ) : Type 0 where
+  pub disk : List ℕ
+  pub long : All (λ other. length other ≡ length disk) mixed
+  pub kept : IsMixedOf (length disk) mixed disk
+  pub in_order : IsInOrder id epoch disk file
+
+-- ---- what a session knows
+
+-- The header of a file names a source of this id and epoch, with a disk as large as the map's, and no bitmaps.
+pub record IsHeaded (i : Image) (file : List ℕ) : Type 0 where
+  pub header : Header
+  pub is : IsHeaderOf parts.Source file header
+  pub offset : ℕ
+  pub size : ℕ
+  pub own : header.own ≡ owns.Source i.id i.epoch offset size
+  pub bare : header.bitmaps ≡ None
+  pub disk : (fields_of file).size ≡ i.map.size
+
+-- The image stands for this disk, and a crash mixes no disks but these: its clusters are counted and in order in each file that a crash may
+-- leave, the allocator goes with it, and unless the source broke the clusters that are referred to are just those that are spoken for.
+pub record Stands (i : Image) (disk : List ℕ) (mixed : List (List ℕ)) (w : World) : Type 0 where
+  pub shape : Shape
+  pub versions : List (List ℕ)
+  -- what a crash may leave is told only where files are
+  pub told : EachNow w i.map.file (λ c. IsTrue w.tells)
+  pub file : i.clusters.file ≡ i.map.file
+  pub is_map : IsMapOf shape i.map
+  pub owner : (k : ℕ) → shape.owner k ≡ None
+  pub headed : IsHeaded i shape.base
+  pub image : StandsFrom shape versions i.clusters w
+  pub known : i.broken ≡ None → Told (IsKnown shape i.clusters) i.map.file w
+  pub long : length disk ≡ i.map.size
+  pub sizes : All (λ other. length other ≡ i.map.size) mixed
+  pub among : Contains mixed disk
+  pub mixes : All (λ version. Contains mixed (disk_of shape i.map.size version)) versions
+  pub disk_is : Told (λ file. disk_of shape i.map.size file ≡ disk) i.map.file w
+
+-- ---- space
+
+-- the kinds of the disk's clusters, the tables that are there, and how many clusters can be handed out
+pub record HasSpace (i : Image) (file : List ℕ) (store : Store) : Type 0 where
+  pub has : HasStore (shape_by i.map) i.map.size file store
+  pub room : store.room ≡ room i.clusters.pool
