@@ -1,0 +1,11 @@
+pub mod Parts
+pub mod Events
+pub mod Once
+pub mod Growing
+pub mod Listing
+pub mod Dealing
+pub mod Chunks
+pub mod Heads
+pub mod Opening
+pub mod Steps
+pub mod Answering

@@ -1,0 +1,5 @@
+pub mod Turns
+pub mod Connections
+pub mod Parts
+pub mod Negotiating
+pub mod Reading
