@@ -36,7 +36,7 @@ use Rattle.core_node.specs.Files.{IsLawfulTarget}
 use Rattle.image_model.specs.Images.{IsSourceOf, IsBackupOf, is_blank, state_of}
 use Rattle.core_node.specs.Rest.{Directory, Files, Allows, directory_of, unused, marked, AreLawful, Mixes, IsReady, IsSafe}
 use Rattle.core_node.specs.Ends.{IsOpening, OpensWithin}
-use Rattle.core_layers.specs.Layers.{IsFound, KeepsOrMarks, MayClose, IsInOrder, NoneTrusted, IsMixed, WritesDisk, ClaimsNothing, IsSealedFile, CarriesWrite}
+use Rattle.core_layers.specs.Layers.{Facts, IsFound, KeepsOrMarks, MayClose, IsInOrder, NoneTrusted, IsMixed, WritesDisk, ClaimsNothing, IsSealedFile, CarriesWrite}
 use Rattle.core_node.proofs.Rests.{ready_is_safe, mixes_keep, allows_left, allows_right, ready_more, safe_more, kept_more}
 
 -- ---- a file is read in one way
@@ -244,14 +244,9 @@ pub from_ok : {T E : Type 0} (P : Type 0) (r : Result T E) → IsOk r → OnOk r
 from_ok P (Ok x) is has = has
 from_ok P (Err e) is has = absurd (cc)
 
-pub moved : {f g : ℕ} {id other : List ℕ} {d d' : Directory} (disk : List ℕ) (mixed : List (List ℕ)) (w : World) → f ≡ g → id ≡ other → d ≡ d'
-    → Holds f (λ c. IsInOrder id d disk c × NoneTrusted d) (IsMixed id d mixed) w → Holds g (λ c. IsInOrder other d' disk c × NoneTrusted d') (IsMixed other d' mixed) w
-moved {f} {g} {id} {other} {d} {d'} disk mixed w file same number holds =
-    subst (λ (n : Directory). Holds g (λ c. IsInOrder other n disk c × NoneTrusted n) (IsMixed other n mixed) w) number
-    (subst (λ (i : List ℕ). Holds g (λ c. IsInOrder i d disk c × NoneTrusted d) (IsMixed i d mixed) w) same
-    (subst (λ (k : ℕ). Holds k (λ c. IsInOrder id d disk c × NoneTrusted d) (IsMixed id d mixed) w) file holds))
-
--- ---- an opening
+pub moved : {a b : Facts} (disk : List ℕ) (mixed : List (List ℕ)) (w : World) → a ≡ b
+    → Holds a.file (λ c. IsInOrder a.id a.directory disk c × NoneTrusted a.directory) (IsMixed a.id a.directory mixed) w → Holds b.file (λ c. IsInOrder b.id b.directory disk c × NoneTrusted b.directory) (IsMixed b.id b.directory mixed) w
+moved disk mixed w same holds = subst (λ (x : Facts). Holds x.file (λ c. IsInOrder x.id x.directory disk c × NoneTrusted x.directory) (IsMixed x.id x.directory mixed) w) same holds
 
 -- ---- files that are made
 

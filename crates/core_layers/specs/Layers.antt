@@ -1,7 +1,7 @@
 -- What the layers below export, over bytes alone: no history is named here.
-use Rattle.std.specs.Prelude.{◌≡◌, ◌⊎◌, ℕ, ◌+◌, ◌*◌, ◌<◌, List, [], ◌∷◌, ◌++◌, length, slice_index, false, Option, Some, None, IsTrue, All, Contains}
+use Rattle.std.specs.Prelude.{◌≡◌, ◌⊎◌, ℕ, ◌+◌, ◌-◌, ◌*◌, ◌^◌, ◌<◌, ◌≤◌, List, [], ◌∷◌, ◌++◌, length, slice_index, false, Option, Some, None, IsTrue, All, Contains}
 use Rattle.disk_model.specs.Files.{overlay}
-use Rattle.disk_model.specs.World.{World, EachSince, Holds}
+use Rattle.disk_model.specs.World.{World, EachSince, Holds, Leads, Rose, FileFailed, SameFile}
 use Rattle.span_algebra.specs.declared.points.Point.{Point}
 use Rattle.span_algebra.specs.declared.spans.Base.{Base}
 use Rattle.bitmap_model.specs.Granules.{is_in}
@@ -10,14 +10,18 @@ use Rattle.qc_layout.specs.Records.{record_of}
 use Rattle.qc_layout.specs.Room.{HasRoom}
 use Rattle.qc_layout.specs.Directory.{stored_in}
 use Rattle.plain_model.specs.History.{History, IsHistory, Wrote, now, timeline_of, with_entry}
-use Rattle.image_model.specs.Space.{Store, IsShapedStore, is_data, kind_at}
+use Rattle.qc_layout.specs.Owners.{Tight}
+use Rattle.image_model.specs.Space.{Store, IsShapedStore, AreEither, is_data, kind_at}
+use Rattle.image_model.specs.declared.refusals.CloseRefusal.{CloseRefusal}
+use Rattle.image_model.specs.declared.refusals.CloseRefusal.TheVariants as unclosed
 use Rattle.image_model.specs.Backups.{Backup, Sealed}
 use Rattle.plain_model.specs.Lawful.{IsTrueEntry, IsOfEpoch, Kept}
 use Rattle.plain_model.specs.Step.{IsTorn}
 use Rattle.core_node.specs.Rest.{Directory, Mixes, marked, IsReady, IsSafe}
-use Rattle.core_node.specs.Ends.{KeepsHeader, AreInUse}
+use Rattle.core_node.specs.Ends.{KeepsHeader, RewritesHeader, IsHeadKnown, AreInUse}
+use Rattle.core_node.specs.Step.{HasHead}
 use Rattle.core_node.specs.Files.{IsLawfulTarget}
-use Rattle.image_model.specs.Images.{IsSourceOf, IsBackupFile, IsBackupOf, is_blank}
+use Rattle.image_model.specs.Images.{IsSourceOf, HasClusters, IsBackupFile, IsBackupOf, is_blank}
 use Rattle.bitmap_model.specs.Bitmaps.{AreShapedEntries}
 
 -- ---- the source
@@ -50,6 +54,63 @@ pub record WritesDisk (file : ℕ) (id : List ℕ) (d : Directory) (at : ℕ) (b
   pub torn : IsTorn disk at bytes left
   pub since : EachSince new old.now file (IsMixed id d (mixed ++ overlay disk at left ∷ []))
   pub after : holds (overlay disk at left) (mixed ++ overlay disk at left ∷ [])
+
+-- ---- what an image shows, and what becomes of its clusters
+
+-- What no request changes: its file, the id of its disk and the disk's size, and of the session the epoch and what the directory stores of bitmaps.
+pub record Facts : Type 0 where
+  pub file : ℕ
+  pub id : List ℕ
+  pub size : ℕ
+  pub directory : Directory
+
+-- Each kind and each table is as before or as the request makes it, and no more room went than it needs.
+pub record Spends (old goal new : Store) (most : ℕ) : Type 0 where
+  pub either : AreEither old goal new
+  pub least : old.room ≤ new.room + most
+  pub most_is : new.room ≤ old.room
+
+-- It broke, in the event that is carried out, where a write or a sync of its file failed; or it is as it was.
+abbrev pub MayBreak : ℕ → ℕ → Option ℕ → Option ℕ → World → World → Type 0
+MayBreak file event was is old new =
+    (is ≡ was) ⊎ ((was ≡ None) × (is ≡ Some event) × Rose old.faults.shared new.faults.shared × Rose (old.faults.writes file) (new.faults.writes file))
+
+-- the first cluster, or what is asked of it, stays, as reads give it and in each crash
+abbrev pub KeepsHead : ℕ → ℕ → World → World → Type 0
+KeepsHead file cluster old new = (start : List ℕ) → length start ≤ cluster → Leads file (HasHead start) (HasHead start) (HasHead start) (HasHead start) (HasHead start) old new
+
+-- An opening of an image of this id, directory and disk: it stands for the very disk with the next epoch, has the clusters that were found, and says in its header what it
+-- said but for what marks it.
+pub record Opens (id : List ℕ) (d : Directory) (disk : List ℕ) (file : ℕ) (facts : Facts) (space : Store) (holds : List ℕ → List (List ℕ) → Type 0) (old new : World) : Type 0 where
+  pub id_is : facts.id ≡ id
+  pub directory_is : facts.directory ≡ marked d
+  pub epoch_left : d.epoch < 2 ^ 64 - 1
+  pub size_is : facts.size ≡ length disk
+  pub holds_it : holds disk (disk ∷ [])
+  pub space_is : (store : Store) → HasClusters (old.seen file) store → HasRoom (old.seen file) store.room → space ≡ store
+  pub header : RewritesHeader (old.seen file) (new.seen file)
+  pub head : IsHeadKnown file new
+  pub in_use : AreInUse (new.seen file)
+
+-- A closing that was answered Ok: reads and each crash from then on give the very disk, with the kinds and tables of the session and no cluster counted that
+-- nothing refers to, under the same header.
+pub record IsClosed (facts : Facts) (space : Store) (disk : List ℕ) (old new : World) : Type 0 where
+  pub rest : Holds facts.file (IsInOrder facts.id facts.directory disk) (IsInOrder facts.id facts.directory disk) new
+  pub store : Store
+  pub has_clusters : HasClusters (new.seen facts.file) store
+  pub has_room : HasRoom (new.seen facts.file) store.room
+  pub kinds_are : store.kinds ≡ space.kinds
+  pub tables_are : store.tables ≡ space.tables
+  pub tight : Tight (new.seen facts.file)
+  pub in_use : AreInUse (new.seen facts.file)
+  pub header : RewritesHeader (old.seen facts.file) (new.seen facts.file)
+
+-- Why a closing isn't answered Ok: it broke, and nothing is called; or a call on its file failed.
+abbrev pub NotClosedBy : CloseRefusal → ℕ → Option ℕ → World → World → Type 0
+NotClosedBy (unclosed.Broken event) file broken old new = (broken ≡ Some event) × SameFile file old new
+NotClosedBy unclosed.NoRoom file broken old new = ⊥
+NotClosedBy unclosed.Failed file broken old new = (broken ≡ None) × FileFailed file old new
+NotClosedBy unclosed.Memory file broken old new = ⊥
 
 -- A closing may store this directory in a session's place: no point is of a later epoch, and its bitmaps say true things where they can be trusted.
 pub record MayClose (d closing : Directory) (h : History) (mixed : List (List ℕ)) : Type 0 where

@@ -1,17 +1,17 @@
-//! What follows for a history: a guest's write with the copy before it, a flush, a seal, a closing.
+//! What follows for a history: a guest's write with the copy before it, and a seal.
 
-ghost use Rattle.std.specs.Prelude.{◌≡◌, ◌+◌, ◌<◌, ◌≤◌, ℕ, List, [], ◌∷◌, length, All, IsTrue, IsOk, OnOk, OnErr};
-ghost use Rattle.disk_model.specs.World.{World, Holds, EachNow, EachSince, FileFailed};
+ghost use Rattle.std.specs.Prelude.{◌≡◌, ◌+◌, ◌<◌, ◌≤◌, ℕ, List, length, All, Err, IsTrue, IsOk, OnOk, OnErr};
+ghost use Rattle.disk_model.specs.World.{Holds, EachNow, EachSince, FileFailed};
+ghost use Rattle.disk_model.specs.declared.depot.WriteRefusal.TheVariants as refusals;
 ghost use Rattle.plain_model.specs.History.{History, IsHistory, now, timeline_of};
 ghost use Rattle.plain_model.specs.Lawful.{IsOfEpoch};
 ghost use Rattle.plain_model.specs.Records.{RecordIsTrue};
 ghost use Rattle.core_node.specs.Files.{IsLawfulTarget};
-ghost use Rattle.core_node.specs.Rest.{IsReady, IsSafe};
-ghost use Rattle.core_layers.specs.Layers.{MayClose, IsSealedFile, CarriesWrite};
+ghost use Rattle.core_layers.specs.Layers.{IsSealedFile, CarriesWrite};
 
 use crate::image::Image;
 use crate::target::Target;
-use disk_model::{Depot, Failed};
+use disk_model::{Depot, Failed, WriteRefusal};
 
 /// A guest's write while a job runs: a unit is copied first, and a failed copy doesn't stop the write.
 pub fn copy_and_write<I: Image, T: Target, D: Depot>(
@@ -22,29 +22,19 @@ pub fn copy_and_write<I: Image, T: Target, D: Depot>(
     unit: &[u8],
     at: u64,
     bytes: &[u8],
-) -> Result<(), Failed>
-    requires given { I.file image.old < (D.world depot.old).given }
+) -> Result<(), WriteRefusal>
+    requires given { (I.facts image.old).file < (D.world depot.old).given }
     requires target { T.file target.old < (D.world depot.old).given }
-    requires apart { I.file image.old ≡ T.file target.old → ⊥ }
-    ensures carries { (h : History) (mixed : List (List ℕ)) → IsTrue (D.world depot.old).tells → at + length bytes.now ≤ length h.start → IsHistory h → All (IsOfEpoch (I.directory image.old).epoch) (timeline_of h).entries →
-        I.holds image.old (D.world depot.old) (now h) mixed → T.holds target.old (D.world depot.old) → EachNow (D.world depot.old) (T.file target.old) (IsLawfulTarget (I.id image.old) h) →
-        CarriesWrite (I.file image.old) (T.file target.old) (I.id image.old) (I.directory image.old) at bytes.now (IsOk result) h mixed
+    requires inside { at + length bytes.now ≤ (I.facts image.old).size }
+    requires apart { (I.facts image.old).file ≡ T.file target.old → ⊥ }
+    ensures carries { (h : History) (mixed : List (List ℕ)) → IsTrue (D.world depot.old).tells → IsHistory h → All (IsOfEpoch (I.facts image.old).directory.epoch) (timeline_of h).entries →
+        I.holds image.old (D.world depot.old) (now h) mixed → T.holds target.old (D.world depot.old) → EachNow (D.world depot.old) (T.file target.old) (IsLawfulTarget (I.facts image.old).id h) →
+        CarriesWrite (I.facts image.old).file (T.file target.old) (I.facts image.old).id (I.facts image.old).directory at bytes.now (IsOk result) h mixed
         (I.holds image.new (D.world depot.new)) (T.holds target.new (D.world depot.new)) (D.world depot.old) (D.world depot.new) }
-    ensures cause { OnErr result (FileFailed (I.file image.old) (D.world depot.old) (D.world depot.new)) }
+    ensures cause { result ≡ Err refusals.Failed → FileFailed (I.facts image.old).file (D.world depot.old) (D.world depot.new) }
 {
     let _copied = target.put_unit(depot, n, unit);
     image.write(depot, at, bytes)
-}
-
-/// A flush.
-pub fn flush<I: Image, D: Depot>(depot: &mut D, image: &mut I) -> Result<(), Failed>
-    requires given { I.file image.old < (D.world depot.old).given }
-    ensures crashes { (h : History) (mixed : List (List ℕ)) → IsHistory h → All (IsOfEpoch (I.directory image.old).epoch) (timeline_of h).entries → I.holds image.old (D.world depot.old) (now h) mixed →
-        EachSince (D.world depot.new) (D.world depot.old).now (I.file image.old) (IsSafe (I.directory image.old ∷ []) (I.id image.old) h mixed) }
-    ensures done { OnOk result ((h : History) (mixed : List (List ℕ)) → IsHistory h → All (IsOfEpoch (I.directory image.old).epoch) (timeline_of h).entries → I.holds image.old (D.world depot.old) (now h) mixed →
-        Holds (I.file image.old) (IsReady (I.directory image.old ∷ []) (I.id image.old) h) (IsSafe (I.directory image.old ∷ []) (I.id image.old) h (now h ∷ [])) (D.world depot.new)) }
-{
-    image.sync(depot)
 }
 
 /// A seal, whose record is true for the history.
@@ -57,16 +47,4 @@ pub fn seal<T: Target, D: Depot>(depot: &mut D, target: &mut T) -> Result<(), Fa
         Holds (T.file target.old) (IsSealedFile (T.seals target.old (D.world depot.old))) (IsSealedFile (T.seals target.old (D.world depot.old))) (D.world depot.new)) }
 {
     target.seal(depot)
-}
-
-/// A closing, where the bitmaps that it stores say true things.
-pub fn close<I: Image, D: Depot>(depot: &mut D, image: &mut I) -> Result<(), Failed>
-    requires given { I.file image.old < (D.world depot.old).given }
-    ensures leads { (h : History) (mixed : List (List ℕ)) → IsTrue (D.world depot.old).tells → MayClose (I.directory image.old) (I.closing image.old) h mixed → I.holds image.old (D.world depot.old) (now h) mixed →
-        EachSince (D.world depot.new) (D.world depot.old).now (I.file image.old) (IsSafe (I.directory image.old ∷ I.closing image.old ∷ []) (I.id image.old) h mixed)
-        × Holds (I.file image.old) (IsReady (I.directory image.old ∷ I.closing image.old ∷ []) (I.id image.old) h) (IsSafe (I.directory image.old ∷ I.closing image.old ∷ []) (I.id image.old) h mixed) (D.world depot.new) }
-    ensures done { OnOk result ((h : History) (mixed : List (List ℕ)) → IsTrue (D.world depot.old).tells → MayClose (I.directory image.old) (I.closing image.old) h mixed → I.holds image.old (D.world depot.old) (now h) mixed →
-        Holds (I.file image.old) (IsReady (I.closing image.old ∷ []) (I.id image.old) h) (IsSafe (I.closing image.old ∷ []) (I.id image.old) h (now h ∷ [])) (D.world depot.new)) }
-{
-    image.close(depot)
 }

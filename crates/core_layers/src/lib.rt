@@ -6,6 +6,6 @@ mod image;
 pub mod laws;
 mod target;
 
-pub use calls::{close, copy_and_write, flush, seal};
+pub use calls::{copy_and_write, seal};
 pub use image::Image;
 pub use target::Target;

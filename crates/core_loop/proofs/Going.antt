@@ -151,7 +151,7 @@ module _ {reading : Reading} {own : ℕ → Type 0} {files : Files} {name : List
   last = last_cut first r.moves
 
   abbrev next : State
-  next = next_of s.held s.trouble given.event answer s.store s.freed last.state
+  next = next_of s.held s.trouble given.event answer s.store (s.freed last.state) last.state
 
   abbrev number : ℕ
   number = min (suc last.number) last_number

@@ -44,10 +44,6 @@ module _ {allows : List Directory} {file : ℕ} {shown : Shown} {keeps : State �
   unfolding opened
   room_is = (stands first begins.keeps_it).space.room_is
 
-  freed_is : shown.freed ≡ begins.given
-  unfolding opened
-  freed_is = (stands first begins.keeps_it).space.freed_is
-
   still_stored : stored_in (new.seen file) ≡ map unused (stored_in (old.seen file))
   still_stored = by_directory ready ready.allowed
     where
@@ -65,12 +61,12 @@ module _ {allows : List Directory} {file : ℕ} {shown : Shown} {keeps : State �
     subst (λ (es : List StoredBitmap). Contains es (unused e)) (sym still_stored) (contains_map unused (stored_in (old.seen file)) e there),
   )
 
-  pub opened_room : stored_in (old.seen file) ≡ [] → HasRoom (old.seen file) shown.room × (shown.freed ≡ 0)
+  pub opened_room : stored_in (old.seen file) ≡ [] → HasRoom (old.seen file) shown.room
   opened_room none =
       let bare = begins.entries_are ∙ none in
       let taken = begins.nothing_taken bare in
       let room = room_is in
-      (subst (HasRoom (old.seen file)) (sym (omega arith)) begins.finds.room, freed_is ∙ begins.nothing_given bare)
+      subst (HasRoom (old.seen file)) (sym (omega arith)) begins.finds.room
 
 -- ---- closings
 

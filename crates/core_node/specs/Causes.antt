@@ -66,9 +66,9 @@ abbrev pub IsRefusal : Reply → Type 0
 IsRefusal (Refused action refusal) = Unit {0}
 IsRefusal reply = ⊥
 
--- all that a core shows but for its event's number, and clusters that moved into its room
+-- all that a core shows but for its event's number, and clusters that came free and moved into its room
 abbrev pub ShowsSame : Shown → Shown → Type 0
-ShowsSame before after = after ≡ record before { event = after.event; room = after.room; freed = after.freed }
+ShowsSame before after = after ≡ record before { event = after.event; room = after.room }
 
 pub record Causes (before after : Shown) (old new : World) (event : Event) (answer : Answer) : Type 0 where
   -- a source breaks only where a write or a sync of it failed

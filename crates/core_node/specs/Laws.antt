@@ -64,7 +64,7 @@ OpenedHasBitmaps {Core} shown keeps = (core : Core) (allows : List Directory) (f
 -- where none is stored it has the image's room
 abbrev pub OpenedHasRoom : {Core : Type 0} → (Core → Shown) → (Core → World → State → Type 0) → Type 0
 OpenedHasRoom {Core} shown keeps = (core : Core) (allows : List Directory) (file : ℕ) (id : List ℕ) (h : History) (disks : List (List ℕ)) (old new : World)
-    → OpensReady allows file (shown core) (keeps core new) id h disks old new → stored_in (old.seen file) ≡ [] → HasRoom (old.seen file) (shown core).room × ((shown core).freed ≡ 0)
+    → OpensReady allows file (shown core) (keeps core new) id h disks old new → stored_in (old.seen file) ≡ [] → HasRoom (old.seen file) (shown core).room
 
 -- and it knows of a state
 abbrev pub OpenedKnows : {Core : Type 0} → (Core → Shown) → (Core → World → State → Type 0) → Type 0

@@ -129,24 +129,24 @@ abbrev pub HasRecordAt : ℕ → List ℕ → Type 0
 HasRecordAt at file = (h : Header) × (bytes : List ℕ) × IsHeaderOf parts.Target file h × (h.own ≡ owns.Target bytes) × (h.own_at ≡ at)
 
 -- One event. `keeps` is what the core knew of the files before it, for a state, and `keeping` what it knows after it. What went wrong, what the
--- depot held and the space of the source's file are the same for all these states.
-pub record Goes (held : List ℕ → Held) (rise : Rise) (t : Trouble) (store : Store) (freed : ℕ) (before : Shown)
+-- depot held and the clusters of the source's file are the same for all these states; how many came free is counted from each state's own number.
+pub record Goes (held : List ℕ → Held) (rise : Rise) (t : Trouble) (store : Store) (freed : State → ℕ) (before : Shown)
     (keeps keeping : State → Type 0) (old new : World) (event : Event) (answer : Answer) : Type 0 where
-  pub contents : (s : State) → keeps s → StepContents held t s.machine event answer (next_of held t event answer store freed s).machine
-  pub space : (s : State) → keeps s → StepSpace t s.machine event (next_of held t event answer store freed s).machine
+  pub contents : (s : State) → keeps s → StepContents held t s.machine event answer (next_of held t event answer store (freed s) s).machine
+  pub space : (s : State) → keeps s → StepSpace t s.machine event (next_of held t event answer store (freed s) s).machine
   pub faults : (s : State) → keeps s → StepFaults (old.named before.file) rise t s.machine event answer
   -- it goes on so
-  pub keeps_on : (s : State) → keeps s → keeping (next_of held t event answer store freed s)
+  pub keeps_on : (s : State) → keeps s → keeping (next_of held t event answer store (freed s) s)
   -- each crash within the event leaves the source safe for the state before it, or, where the event may land, for the one after it
-  pub crashes : (s : State) → keeps s → (let d = during s event (now (next_of held t event answer store freed s).machine.history) in
-      let n = next_of held t event answer store freed s in
+  pub crashes : (s : State) → keeps s → (let d = during s event (now (next_of held t event answer store (freed s) s).machine.history) in
+      let n = next_of held t event answer store (freed s) s in
       EachSince new old.now before.file (λ c. IsSafe (session_directory d ∷ []) before.id d.machine.history d.disks c
       ⊎ (IsTrue (may_land event) × IsSafe (session_directory n ∷ []) before.id n.machine.history n.disks c)))
   -- and each backup file lawful, if it was, for both; after the event it is so for the history after it
   pub lawful : (s : State) (f : ℕ) → keeps s
       → Leads f (IsLawfulTarget before.id s.machine.history) (IsLawfulTarget before.id s.machine.history)
-      (λ c. IsLawfulTarget before.id s.machine.history c × (IsTrue (may_land event) → IsLawfulTarget before.id (next_of held t event answer store freed s).machine.history c))
-      (IsLawfulTarget before.id (next_of held t event answer store freed s).machine.history) (IsLawfulTarget before.id (next_of held t event answer store freed s).machine.history) old new
+      (λ c. IsLawfulTarget before.id s.machine.history c × (IsTrue (may_land event) → IsLawfulTarget before.id (next_of held t event answer store (freed s) s).machine.history c))
+      (IsLawfulTarget before.id (next_of held t event answer store (freed s) s).machine.history) (IsLawfulTarget before.id (next_of held t event answer store (freed s) s).machine.history) old new
   pub blanks : (s : State) → keeps s → NoNewBlanks old new
   -- the source keeps its first cluster, as reads give it and in each crash; a target keeps what of its own isn't its record
   pub source_head : (s : State) (start : List ℕ) → keeps s → length start ≤ s.machine.store.cluster
@@ -172,7 +172,7 @@ pub record NodeSteps (reading : Reading) (before : Shown) (keeps keeping : State
   pub rise : Rise
   pub trouble : Trouble
   pub store : Store
-  pub freed : ℕ
+  pub freed : State → ℕ
   pub rises : IsRise old new rise
   pub goes : Goes held rise trouble store freed before keeps keeping old new event answer
 

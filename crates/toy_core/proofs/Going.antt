@@ -113,7 +113,7 @@ module _ (parts : Parts) (held : List ℕ → Held) (rise : Rise) (tr : Trouble)
   lawful_next c = at_state (λ s. IsLawfulTarget t.source.image.id s.machine.history c → IsLawfulTarget t.source.image.id (next_at s).machine.history c)
       (λ h disks k law. subst (λ (m : Machine). IsLawfulTarget t.source.image.id m.history c) (sym (machine_is h disks k)) (grows h c law))
 
-  pub goes : Goes held rise tr (store_of t.source.image) 0 (shown t) (Keeps t old) (Keeps (moved t n broken) new) old new event (record { reply = reply; notices = [] })
+  pub goes : Goes held rise tr (store_of t.source.image) (λ s. 0) (shown t) (Keeps t old) (Keeps (moved t n broken) new) old new event (record { reply = reply; notices = [] })
   goes = record {
     contents = at_state (λ s. StepContents held tr s.machine event (record { reply = reply; notices = [] }) (next_of held tr event (record { reply = reply; notices = [] }) (store_of t.source.image) 0 s).machine) contents;
     space = at_state (λ s. StepSpace tr s.machine event (next_of held tr event (record { reply = reply; notices = [] }) (store_of t.source.image) 0 s).machine) space;
@@ -152,7 +152,7 @@ module _ (parts : Parts) (held : List ℕ → Held) (rise : Rise) (tr : Trouble)
     rise = rise;
     trouble = tr;
     store = store_of t.source.image;
-    freed = 0;
+    freed = λ s. 0;
     rises = rises;
     goes = goes;
   }

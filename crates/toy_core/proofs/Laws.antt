@@ -21,7 +21,7 @@ stands t w = at_state (λ s. StandsFor (shown t) w s.machine) (λ h disks k. rec
   numbers = record { size_is = sym (sized t h t.source.image.size k.image.size_is k.sound); epoch_is = refl; serial_is = refl; event_is = refl; broken_is = refl; ended_is = refl };
   bitmaps = record { bitmaps_are = refl; exports_are = refl };
   jobs = record { jobs_are = refl; views_are = refl; targets_are = refl; gone_are = refl; created_is = refl };
-  space = record { room_is = refl; freed_is = refl };
+  space = record { room_is = refl };
   entries = All-nil (HasEntry []);
   found = λ told. (k.named.found, All-nil (λ (x : TargetFile). w.found x.name ≡ Some x.file));
   source = λ told. k.image.source;

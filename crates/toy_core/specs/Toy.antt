@@ -82,7 +82,6 @@ shown t = record {
   gone = [];
   created = [];
   room = t.source.image.room;
-  freed = 0;
   directory = [];
 }
 

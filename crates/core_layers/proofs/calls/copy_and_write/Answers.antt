@@ -1,5 +1,4 @@
 use Rattle.std.proofs.Common.{◌+◌, ◌≤◌, ℕ, [], ◌∷◌, ◌++◌, length, IsTrue, sym, subst, ◌∙◌}
-use Rattle.std.proofs.lemmas.Result.{on_err_weaker}
 use Rattle.disk_model.specs.Files.{overlay}
 use Rattle.plain_model.specs.History.{now}
 use Rattle.plain_model.proofs.Histories.{length-now}
@@ -14,19 +13,20 @@ returns g c =
     let mid = g.D.Outside.world c.put_unit-copied.new.depot in
     let new = g.D.Outside.world c.write.new.depot in
     record {
-      carries = λ h mixed told range history epochs holds target lawful.
+      carries = λ h mixed told history epochs holds target lawful.
           let image = c.args.image.now in
           let mid_told = subst IsTrue (sym c.put_unit-copied.ensures.run.goes.tells) told in
-          let stays = g.met.I.Image.spared image old mid (now h) mixed (spares (g.I.Image.file image) c.put_unit-copied.ensures.run c.requires.apart) holds in
+          let stays = g.met.I.Image.spared image old mid (now h) mixed (spares (g.I.Image.facts image).file c.put_unit-copied.ensures.run c.requires.apart) holds in
           let wrote = c.write.ensures.writes mid_told in
-          let w = wrote.2 (now h) mixed (subst (λ (n : ℕ). c.args.at + length c.args.bytes.now ≤ n) (sym (length-now h history.inside)) range) stays in
+          let range = subst (λ (n : ℕ). c.args.at + length c.args.bytes.now ≤ n) (sym (g.met.I.Image.sizes image old (now h) mixed holds).0 ∙ length-now h history.inside) c.requires.inside in
+          let w = wrote.2 (now h) mixed stays in
           let copied = g.met.T.Target.spared c.put_unit-copied.new.self mid new (spares (g.T.Target.file c.put_unit-copied.new.self) c.write.ensures.run (λ is. c.requires.apart (sym is ∙ c.put_unit-copied.ensures.file))) (c.put_unit-copied.ensures.goes told target) in
           carried {L = g.I.Image.holds c.write.new.self new} history epochs range c.requires.apart (g.met.I.Image.in_order image old (now h) mixed holds).each (g.met.I.Image.among image old (now h) mixed holds)
           c.put_unit-copied.ensures.run c.write.ensures.run (c.put_unit-copied.ensures.within told target) lawful
           (λ new_told. subst (λ (f : ℕ). ClaimsNothing (new.seen f)) c.put_unit-copied.ensures.file (g.met.T.Target.claims c.put_unit-copied.new.self new copied new_told)) w
-          (λ after. moved (overlay (now h) c.args.at wrote.0) (mixed ++ overlay (now h) c.args.at wrote.0 ∷ []) new c.write.ensures.file c.write.ensures.id c.write.ensures.directory
+          (λ after. moved (overlay (now h) c.args.at wrote.0) (mixed ++ overlay (now h) c.args.at wrote.0 ∷ []) new c.write.ensures.facts
           (g.met.I.Image.in_order c.write.new.self new (overlay (now h) c.args.at wrote.0) (mixed ++ overlay (now h) c.args.at wrote.0 ∷ []) after))
           copied
           (λ well. from_ok _ c.write.result well wrote.1);
-      cause = on_err_weaker c.write.result (λ why. file_failed_after c.put_unit-copied.ensures.run why) c.write.ensures.cause;
+      cause = λ is. file_failed_after c.put_unit-copied.ensures.run (c.write.ensures.failed is);
     }
