@@ -21,10 +21,10 @@ use Rattle.qc_alloc.specs.Allocator.{Allocator}
 use Rattle.image_store.specs.declared.finding.Wanted.TheVariants.{Adopted}
 use Rattle.image_store.specs.Finding.{IsAllFound}
 use Rattle.image_store.specs.Images.{IsInOrder}
-use Rattle.image_store.specs.Opening.{IsForeign, IsAdopting, HasSector, new_header}
+use Rattle.image_store.specs.Opening.{IsForeign, IsAdopting, RewritesHeader, HasSector, new_header}
 use Rattle.image_store.specs.Refusals.{own_refusal}
 use Rattle.image_store.proofs.Behind.{far_place, behind_all, behind_forms, behind_disk}
-use Rattle.image_store.proofs.Drawn.{HasNew, keeps_header, draws_header, safe_single, own_disk, drawn, turned, inside, has_drawn, turned_shape, turned_size, drawn_behind}
+use Rattle.image_store.proofs.Drawn.{HasNew, keeps_header, draws_header, redraws_header, safe_single, own_disk, drawn, turned, inside, has_drawn, turned_shape, turned_size, drawn_behind}
 use Rattle.image_store.proofs.Epochs.{found_safe, respell}
 use Rattle.image_store.proofs.Orders.{long_base, base_passes}
 
@@ -125,6 +125,11 @@ module _ (found : List ℕ) (h : Header) (a : Allocator) (all : IsAllFound a fou
       pub whole_gives : Gives (file_of x f) (λ c. 512 ≤ length c)
       unfolding file_of
       whole_gives told = subst (λ (c : List ℕ). 512 ≤ length c) (sym seen) whole
+
+      pub adopted_header : Is (New sector (file_of x f)) (file_of y f) → IsTrue y.tells → RewritesHeader id 0 found (y.seen f)
+      unfolding file_of
+      adopted_header is told =
+          subst (RewritesHeader id 0 found) (sym (is.seen told ∙ ap (λ (c : List ℕ). overlay c 0 sector) seen)) (redraws_header found base id 0 h head.spells (respell base h id 0 new.at new.is.spells))
 
       pub adopted_holds : (disk : List ℕ) → Stands parts.Source found disk → Is (New sector (file_of x f)) (file_of y f) → Holds f (IsInOrder id 0 disk) (IsInOrder id 0 disk) y
       unfolding file_of

@@ -3,15 +3,16 @@ use Rattle.std.proofs.Common.{◌≡◌, ◌⊎◌, inl, inr, ℕ, ◌+◌, ◌-
 use Rattle.std.specs.Option.{option_or}
 use Rattle.std.specs.Prelude.{All, Contains}
 use Rattle.std.proofs.lemmas.Bool.{cases_lt}
-use Rattle.std.proofs.lemmas.List.Elements.{All-cons, All-push, All-weaker, Contains-append_left, Contains-append_right}
+use Rattle.std.proofs.lemmas.List.Elements.{All-cons, All-push, All-weaker, Contains-append_right}
 use Rattle.disk_model.specs.Files.{byte, reading, overlay}
 use Rattle.disk_model.specs.World.{World, IsSound, EachSince}
 use Rattle.disk_model.proofs.Laws.{byte-overlay_below, byte-overlay_in, byte-overlay_above, length-overlay_inside, same_file, byte-reading, length-reading, reading-overlay_same, told_by}
-use Rattle.image_model.specs.Clusters.{Shape}
+use Rattle.image_model.specs.Clusters.{Shape, IsSafe}
 use Rattle.image_model.specs.Calls.{Told}
 use Rattle.image_model.specs.Disks.{disk_of, IsMixedOf}
 use Rattle.image_model.specs.Space.{Store}
 use Rattle.image_steps.proofs.Disk.{length-disk_of}
+use Rattle.image_steps.proofs.Good.{safe}
 use Rattle.cluster_pool.specs.Pool.{room}
 use Rattle.map_rows.specs.Stores.{HasStore}
 use Rattle.qc_alloc.specs.Allocator.{Allocator, StandsFrom, IsKnown}
@@ -22,7 +23,8 @@ use Rattle.qc_map.proofs.Places.{sectors, disk_by, store_by}
 use Rattle.qc_map.proofs.Words.{first_level_by}
 use Rattle.image_store.specs.Images.{Image, IsMixture, Stands, HasSpace}
 use Rattle.image_store.specs.Requests.{disk_now, Leaves, SpendsUpTo}
-use Rattle.image_store.proofs.Stood.{AreMixed, of_image, mixture_of}
+use Rattle.image_store.proofs.First.{keeps_first}
+use Rattle.image_store.proofs.Stood.{AreMixed, of_image, mixture_of, mixed_one, mixed_on_more}
 
 -- what broke once is broken
 pub none_broken : (broken : Option ℕ) (event : ℕ) → option_or broken (Some event) ≡ None → ⊥
@@ -47,7 +49,7 @@ stands_on i a b {y = y} is versions disk_on mixed_on sound file stands known lon
       file = file;
       is_map = is.is_map;
       owner = is.owner;
-      headed = record { header = h.header; is = h.is; offset = h.offset; size = h.size; own = h.own; bare = h.bare; disk = h.disk };
+      headed = record { header = h.header; is = h.is; own = h.own; clear = h.clear; bare = h.bare; disk = h.disk };
       image = stands;
       known = known;
       long = long;
@@ -63,7 +65,7 @@ stands_on i a b {y = y} is versions disk_on mixed_on sound file stands known lon
 abbrev bare : ℕ → ℕ → Shape
 bare n l = record { sectors = n; counts = 0; blocks = 0; l1 = l; tables = 0; reach = 0; owner = λ k. None; base = [] }
 
-store_alike : (s t : Shape) (total : ℕ) (file : List ℕ) (store : Store) → s.sectors ≡ t.sectors → s.l1 ≡ t.l1 → HasStore s total file store → HasStore t total file store
+pub store_alike : (s t : Shape) (total : ℕ) (file : List ℕ) (store : Store) → s.sectors ≡ t.sectors → s.l1 ≡ t.l1 → HasStore s total file store → HasStore t total file store
 store_alike s t total file store sectors first has =
     let of_bare : HasStore (bare s.sectors s.l1) total file store = record { cluster = has.cluster; kind_count = has.kind_count; kinds = has.kinds; table_count = has.table_count; tables = has.tables } in
     let on : HasStore (bare t.sectors t.l1) total file store = subst (λ (l : ℕ). HasStore (bare t.sectors l) total file store) first (subst (λ (n : ℕ). HasStore (bare n s.l1) total file store) sectors of_bare) in
@@ -139,17 +141,19 @@ module _ (i : Image) (a : Allocator) (b : Option ℕ) (e : Change) {x y : World}
   last_among = Contains-append_right mixed (now ∷ []) now (0, omega arith, refl)
 
   mixes_on : AreMixed i s mixed_on (y.seen f ∷ is.versions)
-  mixes_on = All-cons (λ version. Contains mixed_on (disk_of s i.map.size version)) (y.seen f) is.versions last_among
-      (All-weaker (λ version. Contains mixed (disk_of s i.map.size version)) (λ version. Contains mixed_on (disk_of s i.map.size version)) (λ version among. Contains-append_left mixed (now ∷ []) (disk_of s i.map.size version) among) is.versions is.mixes)
+  mixes_on = All-cons (λ version. IsMixedOf i.map.size mixed_on (disk_of s i.map.size version)) (y.seen f) is.versions (mixed_one i.map.size mixed_on now last_among)
+      (All-weaker (λ version. IsMixedOf i.map.size mixed (disk_of s i.map.size version)) (λ version. IsMixedOf i.map.size mixed_on (disk_of s i.map.size version))
+      (λ version kept. mixed_on_more i.map.size mixed now (disk_of s i.map.size version) kept) is.versions is.mixes)
 
   sizes_on : All (λ other. length other ≡ i.map.size) mixed_on
   sizes_on = All-push (λ other. length other ≡ i.map.size) mixed now is.sizes now_long
 
   -- whatever was answered
-  pub leaves : (b ≡ None → (i.broken ≡ None) × KnowsOn i.map Always i.clusters a x y) → a.file ≡ i.clusters.file → IsSound y → (m : Mapping) → m ≡ i.map
+  pub leaves : (b ≡ None → (i.broken ≡ None) × KnowsOn i.map Always i.clusters a x y) → a.file ≡ i.clusters.file → IsSound y → IsTrue y.tells → (m : Mapping) → m ≡ i.map
       → Leaves i (after i m a b) e.at e.bytes (disk_now i e.at count y) disk mixed x y
-  leaves knows file sound m same =
+  leaves knows file sound told_y m same =
       let moves = changes.moves s is.versions is.image.0 is.is_map is.image.1 in
+      let st = (moves.stands is.image.2).2.stands told_y in
       subst (λ (k : Mapping). Leaves i (after i k a b) e.at e.bytes (disk_now i e.at count y) disk mixed x y) (sym same) (record {
         long = ap length left_is ∙ left_long;
         torn = subst (λ (d : List ℕ). IsMixedOf (length d) (d ∷ overlay d e.at e.bytes ∷ []) (overlay disk e.at (disk_now i e.at count y))) (is.disk_is told)
@@ -161,6 +165,8 @@ module _ (i : Image) (a : Allocator) (b : Option ℕ) (e : Change) {x y : World}
             (stands_on i a b is (y.seen f ∷ is.versions) now mixed_on sound (file ∙ is.file) (moves.stands is.image.2)
             (λ whole told_y. let k = knows whole in k.1.known s is.versions is.image.0 is.is_map is.image.1 tt is.image.2 told (is.known k.0 told))
             now_long sizes_on last_among mixes_on (λ _. refl));
+        first = keeps_first i is told (y.seen f ∷ is.versions) (y.seen f ∷ is.versions) (moves.since is.image.2)
+            (subst (λ (h : ℕ). IsSafe s (y.seen f ∷ is.versions) (y.seen h)) (file ∙ is.file) (safe s st.role (y.seen f ∷ is.versions) (y.seen a.file) st.seen));
       })
 
   -- after Ok

@@ -15,8 +15,9 @@ use Rattle.qc_alloc.proofs.Naming.{refers_on}
 use Rattle.qc_map.specs.Mapping.{IsMapping}
 use Rattle.qc_map.proofs.Over.{tables_cover}
 use Rattle.image_store.specs.Closing.{IsAtRest}
-use Rattle.image_store.specs.Images.{Image, IsInOrder, IsMixture, Stands}
+use Rattle.image_store.specs.Images.{Image, IsInOrder, IsMixture, KeepsFirst, Stands}
 use Rattle.image_store.proofs.Orders.{safe_tight}
+use Rattle.image_store.proofs.First.{keeps_first}
 use Rattle.image_store.proofs.Stood.{of_image, source_of, mixture_of}
 
 counted_is : (t : Bool) (many : ℕ) → 0 < many → many ≡ (if t then 1 else 0) → IsTrue t
@@ -58,6 +59,10 @@ module _ (i : Image) (a : Allocator) {parts : _} {x y : World} (run : Runs parts
 
     is_safe : IsSafe s is.versions (y.seen f)
     is_safe = safe s st.role is.versions (y.seen f) good
+
+    pub closed_first : KeepsFirst i x y
+    closed_first = keeps_first i is told is.versions is.versions
+        (λ k low high c at. (moves s is.versions is.image.0 named).since is.image.2 k low high c (subst (λ (h : ℕ). IsOutcome (y.past k h) c) (sym is.file) at)) is_safe
 
     left : LeavesGuest s (x.seen f) (y.seen f)
     left = subst (λ (h : ℕ). LeavesGuest s (x.seen h) (y.seen h)) is.file (leaves s is.versions is.image.0 named is.image.2 told).0

@@ -20,7 +20,7 @@ use Rattle.image_steps.proofs.Bridge.{head_inside}
 use Rattle.image_steps.proofs.Disk.{length-disk_of, disk_mixed, disk_stands}
 use Rattle.image_steps.proofs.Turns.{turn_here, turn_shape, same_owners}
 use Rattle.image_store.specs.Images.{IsInOrder}
-use Rattle.image_store.specs.Opening.{SaysSame, KeepsHeader, HasSector, new_header}
+use Rattle.image_store.specs.Opening.{SaysSame, KeepsHeader, RewritesHeader, HasSector, new_header}
 use Rattle.image_store.proofs.Behind.{IsBehind}
 use Rattle.image_store.proofs.Orders.{long_base, base_passes, safe_in_order}
 
@@ -48,12 +48,15 @@ keeps_header before file h x y g k is on =
     let now = (said file h k y on).0 in
     inl (now.0 ∙ was.0, now.1 ∙ was.1, now.2 ∙ was.2)
 
--- and the new one
-pub draws_header : (before file id : List ℕ) (epoch : ℕ) (h : Header) → Spells parts.Source before h → Spells parts.Source file (new_header h id epoch) → KeepsHeader before file
-draws_header before file id epoch h x y g k is on =
+-- the new one
+pub redraws_header : (before file id : List ℕ) (epoch : ℕ) (h : Header) → Spells parts.Source before h → Spells parts.Source file (new_header h id epoch) → RewritesHeader id epoch before file
+redraws_header before file id epoch h x y g k is on =
     let was = (said before g h is x).0 in
-    let now = (said file (new_header h id epoch) k y on).0 in
-    inr (now.0 ∙ ap (λ (f : Fields). record f { autoclear_features = 0 }) was.0, now.1 ∙ was.1, now.2 ∙ was.2)
+    let now = said file (new_header h id epoch) k y on in
+    ((now.0.0 ∙ ap (λ (f : Fields). record f { autoclear_features = 0 }) was.0, now.0.1 ∙ was.1, now.0.2 ∙ was.2), now.1)
+
+pub draws_header : (before file id : List ℕ) (epoch : ℕ) (h : Header) → Spells parts.Source before h → Spells parts.Source file (new_header h id epoch) → KeepsHeader before file
+draws_header before file id epoch h x y g k is on = inr (redraws_header before file id epoch h x y g k is on).0
 
 one_mixed : (n : ℕ) (d e : List ℕ) → length d ≡ n → length e ≡ n → IsMixedOf n (d ∷ []) e → e ≡ d
 one_mixed n d e long_d long_e mixed = same_file e d (long_e ∙ sym long_d) (λ k inside. elim (mixed (k / 512) (omega (arith, inside, long_e))) [

@@ -19,7 +19,7 @@ use Rattle.qc_layout.specs.Spelling.{Spells, IsHeaderOf}
 use Rattle.cluster_pool.specs.Pool.{room}
 use Rattle.image_model.specs.Clusters.{Shape, Who, Refers, IsShape, IsSafe, IsStanding, IsLonger, Forms}
 use Rattle.image_model.specs.Calls.{shape_of}
-use Rattle.image_model.specs.Disks.{disk_of}
+use Rattle.image_model.specs.Disks.{disk_of, IsMixedOf}
 use Rattle.image_model.specs.Images.{HasClusters}
 use Rattle.image_model.specs.Space.{Store}
 use Rattle.image_model.specs.Turns.{rebased, IsEither, Turning}
@@ -37,10 +37,11 @@ use Rattle.image_store.specs.declared.refusals.NotOpened.TheVariants as refusals
 use Rattle.image_store.specs.Refusals.{own_refusal}
 use Rattle.image_store.specs.Finding.{IsAllFound}
 use Rattle.image_store.specs.Images.{Image, IsInOrder}
-use Rattle.image_store.specs.Opening.{IsOpening, Opens, HasSector, new_header}
+use Rattle.image_store.specs.Opening.{IsOpening, Opens, RewritesHeader, HasSector, new_header}
 use Rattle.image_store.proofs.Behind.{far_place, IsBehind, behind_back, behind_refers, behind_disk, behind_store, count_word}
-use Rattle.image_store.proofs.Drawn.{HasNew, one_own, keeps_header, draws_header, safe_single, own_disk, drawn, turned, has_drawn, turned_shape, turned_size, drawn_behind}
+use Rattle.image_store.proofs.Drawn.{HasNew, one_own, keeps_header, draws_header, redraws_header, safe_single, own_disk, drawn, turned, has_drawn, turned_shape, turned_size, drawn_behind}
 use Rattle.image_store.proofs.Orders.{long_base, base_passes, spelled}
+use Rattle.image_store.proofs.Stood.{mixed_one}
 use Rattle.image_store.proofs.Taken.{opened_safe}
 
 one_room : (file : List ℕ) (a b : ℕ) → HasRoom file a → HasRoom file b → a ≡ b
@@ -233,7 +234,7 @@ module _ (found : List ℕ) (h : Header) (a : Allocator) (all : IsAllFound a fou
               file = file_is;
               is_map = map_on f;
               owner = λ k. refl;
-              headed = record { header = head_t; is = new.is; offset = 0; size = 0; own = refl; bare = bare; disk = size_t ∙ sym size_is };
+              headed = record { header = head_t; is = new.is; own = refl; clear = refl; bare = bare; disk = size_t ∙ sym size_is };
               image = (
                 a.pool.next,
                 hands,
@@ -247,9 +248,11 @@ module _ (found : List ℕ) (h : Header) (a : Allocator) (all : IsAllFound a fou
               long = long;
               sizes = All-cons (λ other. length other ≡ i.map.size) disk [] long (All-nil (λ other. length other ≡ i.map.size));
               among = among;
-              mixes = All-cons (λ version. Contains (disk ∷ []) (disk_of t i.map.size version)) (w.seen f) [] (subst (Contains (disk ∷ [])) (sym (shows_now told)) among) (All-nil (λ version. Contains (disk ∷ []) (disk_of t i.map.size version)));
+              mixes = All-cons (λ version. IsMixedOf i.map.size (disk ∷ []) (disk_of t i.map.size version)) (w.seen f) [] (mixed_one i.map.size (disk ∷ []) (disk_of t i.map.size (w.seen f)) (subst (Contains (disk ∷ [])) (sym (shows_now told)) among))
+                  (All-nil (λ version. IsMixedOf i.map.size (disk ∷ []) (disk_of t i.map.size version)));
               disk_is = shows_now;
             };
+            header = subst (RewritesHeader id epoch found) (sym (seen told)) (redraws_header found base id epoch h head.spells (respell base h id epoch new.at new.is.spells));
             space = λ store clusters has_room. record {
               has = store_by t i.map i.map.size (w.seen f) store mapping (map_on f) (subst (λ (n : ℕ). HasStore t n (w.seen f) store) (sym size_is) (subst (λ (c : List ℕ). HasStore t total c store) (sym (seen told)) (store_on store clusters)));
               room = one_room found store.room (room a.pool) has_room all.room;

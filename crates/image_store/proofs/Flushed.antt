@@ -6,11 +6,12 @@ use Rattle.std.proofs.lemmas.List.Elements.{All-cons, All-nil}
 use Rattle.disk_model.specs.World.{World, EachSince, Rose}
 use Rattle.file_device.specs.Calls.{Synced}
 use Rattle.image_model.specs.Clusters.{Shape, IsSafe, IsStanding, Moves}
-use Rattle.image_model.specs.Disks.{disk_of}
+use Rattle.image_model.specs.Disks.{disk_of, IsMixedOf}
 use Rattle.qc_alloc.specs.Allocator.{StandsFrom, HasTable, IsKnown}
-use Rattle.image_store.specs.Images.{Image, IsMixture, Stands}
+use Rattle.image_store.specs.Images.{Image, IsMixture, KeepsFirst, Stands}
 use Rattle.image_store.specs.Requests.{MayBreak, broken_in}
-use Rattle.image_store.proofs.Stood.{AreMixed, of_image, mixture_of}
+use Rattle.image_store.proofs.First.{was_safe, keeps_first}
+use Rattle.image_store.proofs.Stood.{AreMixed, of_image, mixture_of, mixed_one}
 use Rattle.image_store.proofs.Called.{after, none_broken, stands_on}
 
 -- it broke by this call, or before
@@ -62,6 +63,10 @@ module _ (i : Image) {T E : Type 0} {result : Result T E} {x y : World} (synced 
   pub flushed_since : EachSince y x.now f (IsMixture i.id i.epoch mixed)
   flushed_since k low high c left = mixture_of i s is.versions mixed c (of_image is) is.mixes is.sizes ((stays s is.versions is.image.0 i.clusters.pool.prepared).since was k low high c left)
 
+  pub flushed_first : IsTrue x.tells → KeepsFirst i x y
+  flushed_first told =
+      keeps_first i is told is.versions is.versions ((stays s is.versions is.image.0 i.clusters.pool.prepared).since was) (subst (IsSafe s is.versions) (sym synced.call.seen) (was_safe i is told))
+
   -- after Ok
   pub flushed_ok : ((s : Shape) (disks : List (List ℕ)) (first last : ℕ) → Moves f (IsSafe s disks) (IsStanding s disks first last f) (IsStanding s (y.seen f ∷ []) first last f) x y) → Stands i disk (disk ∷ []) y
   flushed_ok one = by_told y.tells refl
@@ -73,10 +78,10 @@ module _ (i : Image) {T E : Type 0} {result : Result T E} {x y : World} (synced 
       among = (0, omega arith, refl)
 
       AreAmong : List ℕ → Type 0
-      AreAmong version = Contains (disk ∷ []) (disk_of s i.map.size version)
+      AreAmong version = IsMixedOf i.map.size (disk ∷ []) (disk_of s i.map.size version)
 
       by_told : (b : Bool) → y.tells ≡ b → Stands i disk (disk ∷ []) y
       by_told true told =
           on i.broken (λ none. none) (y.seen f ∷ []) (disk ∷ []) ((one s is.versions is.image.0 i.clusters.pool.prepared).stands was) sizes among
-          (All-cons AreAmong (y.seen f) [] (subst (Contains (disk ∷ [])) (sym (ap (disk_of s i.map.size) synced.call.seen ∙ is.disk_is (told_back told))) among) (All-nil AreAmong))
+          (All-cons AreAmong (y.seen f) [] (mixed_one i.map.size (disk ∷ []) (disk_of s i.map.size (y.seen f)) (subst (Contains (disk ∷ [])) (sym (ap (disk_of s i.map.size) synced.call.seen ∙ is.disk_is (told_back told))) among)) (All-nil AreAmong))
       by_told false untold = on i.broken (λ none. none) [] (disk ∷ []) (λ told. absurd (cc)) sizes among (All-nil AreAmong)

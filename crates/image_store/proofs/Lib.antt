@@ -2,6 +2,7 @@ mod Orders
 mod Stood
 mod Called
 mod Closed
+mod First
 mod Flushed
 mod Taken
 mod Begun
@@ -10,3 +11,4 @@ mod Drawn
 mod Epochs
 mod Adopted
 mod Sector
+mod Space

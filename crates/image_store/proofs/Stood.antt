@@ -1,9 +1,10 @@
 -- What is known of a source says that its file is in order.
-use Rattle.std.proofs.Common.{◌≡◌, inl, inr, ℕ, zero, suc, ◌<◌, List, [], ◌∷◌, length, map, IsTrue, None, sym, ap, ◌∙◌, subst, arith}
+use Rattle.std.proofs.Common.{◌≡◌, inl, inr, ℕ, zero, suc, ◌+◌, ◌*◌, ◌<◌, ◌≤◌, List, [], ◌∷◌, ◌++◌, length, map, IsTrue, None, refl, sym, ap, ◌∙◌, subst, arith}
 use Rattle.std.specs.Prelude.{All, Contains}
-use Rattle.std.proofs.lemmas.List.Elements.{All-head, All-tail}
-use Rattle.disk_model.specs.Files.{IsOutcome, SomeVersion}
+use Rattle.std.proofs.lemmas.List.Elements.{All-head, All-tail, All-map, All-weaker, All-contains_itself, Contains-append_left}
+use Rattle.disk_model.specs.Files.{byte, IsOutcome, SomeVersion}
 use Rattle.disk_model.specs.World.{World, versions, Holds, IsSpared}
+use Rattle.disk_model.proofs.Laws.{some_more}
 use Rattle.qc_layout.specs.declared.header.Part.TheVariants as parts
 use Rattle.image_model.specs.Clusters.{Shape, Block, Of, IsBlock, IsGood, IsSafe, Standing, IsStanding}
 use Rattle.image_model.specs.Disks.{disk_of, IsMixedOf}
@@ -21,10 +22,29 @@ some_at P [] x (k, below, is) has = absurd (omega (arith, below))
 some_at P (v ∷ vs) x (zero, below, is) has = inl (subst P (sym is) has)
 some_at P (v ∷ vs) x (suc k, below, is) has = inr (some_at P vs x (k, omega (arith, below), is) has)
 
-some_among : (P : List ℕ → Type 0) (g : List ℕ → List ℕ) (mixed : List (List ℕ)) (vs : List (List ℕ)) → All (λ v. Contains mixed (g v)) vs → SomeVersion P (map g vs) → SomeVersion P mixed
-some_among P g mixed [] among none = absurd none
-some_among P g mixed (v ∷ vs) among (inl here) = some_at P mixed (g v) (All-head (λ u. Contains mixed (g u)) v vs among) here
-some_among P g mixed (v ∷ vs) among (inr there) = some_among P g mixed vs (All-tail (λ u. Contains mixed (g u)) v vs among) there
+-- sector x is the same in two disks of n bytes
+abbrev AgreeAt : ℕ → ℕ → List ℕ → List ℕ → Type 0
+AgreeAt n x disk other = (b : ℕ) → 512 * x ≤ b → b < 512 * x + 512 → b < n → byte disk b ≡ byte other b
+
+some_among : (n x : ℕ) (others : List (List ℕ)) (disk : List ℕ) (mixed : List (List ℕ)) → 512 * x < n → All (IsMixedOf n others) mixed → SomeVersion (AgreeAt n x disk) mixed → SomeVersion (AgreeAt n x disk) others
+some_among n x others disk [] inside each none = absurd none
+some_among n x others disk (v ∷ vs) inside each (inl here) =
+    some_more (AgreeAt n x v) (AgreeAt n x disk) others (λ other same b low high below. here b low high below ∙ same b low high below) (All-head (IsMixedOf n others) v vs each x inside)
+some_among n x others disk (v ∷ vs) inside each (inr there) = some_among n x others disk vs inside (All-tail (IsMixedOf n others) v vs each) there
+
+-- what is mixed of disks that are mixed of others is mixed of these
+pub mixed_on : (n : ℕ) (mixed others : List (List ℕ)) (disk : List ℕ) → All (IsMixedOf n others) mixed → IsMixedOf n mixed disk → IsMixedOf n others disk
+mixed_on n mixed others disk each kept x inside = some_among n x others disk mixed inside each (kept x inside)
+
+-- and each of them is
+pub mixed_one : (n : ℕ) (mixed : List (List ℕ)) (disk : List ℕ) → Contains mixed disk → IsMixedOf n mixed disk
+mixed_one n mixed disk among x inside = some_at (AgreeAt n x disk) mixed disk among (λ b low high below. refl)
+
+-- nor does one disk more undo it
+pub mixed_on_more : (n : ℕ) (mixed : List (List ℕ)) (other disk : List ℕ) → IsMixedOf n mixed disk → IsMixedOf n (mixed ++ other ∷ []) disk
+mixed_on_more n mixed other disk kept =
+    mixed_on n mixed (mixed ++ other ∷ []) disk
+    (All-weaker (Contains mixed) (IsMixedOf n (mixed ++ other ∷ [])) (λ d among. mixed_one n (mixed ++ other ∷ []) d (Contains-append_left mixed (other ∷ []) d among)) mixed (All-contains_itself mixed)) kept
 
 -- ---- files
 
@@ -39,13 +59,13 @@ of_image is = record { is_map = is.is_map; owner = is.owner; headed = is.headed 
 
 -- versions are of disks that may be mixed
 abbrev pub AreMixed : Image → Shape → List (List ℕ) → List (List ℕ) → Type 0
-AreMixed i s mixed versions = All (λ version. Contains mixed (disk_of s i.map.size version)) versions
+AreMixed i s mixed versions = All (λ version. IsMixedOf i.map.size mixed (disk_of s i.map.size version)) versions
 
 pub source_of : (i : Image) (s : Shape) (disks : List (List ℕ)) (c : List ℕ) → IsOfImage i s → IsSafe s disks c → IsInOrder i.id i.epoch (disk_of s i.map.size c) c
 source_of i s disks c of safe =
     let h = of.headed in
     subst (λ (n : ℕ). IsInOrder i.id i.epoch (disk_of s n c) c) h.disk
-    (safe_in_order s disks c h.header of.is_map.shape of.owner h.is h.bare safe i.id i.epoch h.offset h.size h.own)
+    (safe_in_order s disks c h.header of.is_map.shape of.owner h.is h.bare safe i.id i.epoch 0 0 h.own)
 
 pub mixture_of : (i : Image) (s : Shape) (versions mixed : List (List ℕ)) (c : List ℕ) → IsOfImage i s → AreMixed i s mixed versions → All (λ other. length other ≡ i.map.size) mixed → IsSafe s versions c
     → IsMixture i.id i.epoch mixed c
@@ -59,7 +79,7 @@ mixture_of i s versions mixed c of mixes sizes safe =
     record {
       disk = d;
       long = λ k d below. sizes k d below ∙ sym long;
-      kept = subst (λ (n : ℕ). IsMixedOf n mixed d) (sym long) (λ x inside. some_among _ (disk_of s i.map.size) mixed versions mixes (kept x inside));
+      kept = subst (λ (n : ℕ). IsMixedOf n mixed d) (sym long) (mixed_on i.map.size (map (disk_of s i.map.size) versions) mixed d (All-map (IsMixedOf i.map.size mixed) (disk_of s i.map.size) versions mixes) kept);
       in_order = source_of i s versions c of safe;
     }
 
@@ -120,4 +140,26 @@ standing_is_spared i disk mixed old new spares is =
       among = is.among;
       mixes = is.mixes;
       disk_is = λ told. subst (λ (c : List ℕ). disk_of s i.map.size c ≡ disk) (sym spares.seen) (is.disk_is (back told));
+    }
+
+pub standing_is_mixed_of_others : (i : Image) (disk : List ℕ) (mixed others : List (List ℕ)) (w : World) → All (IsMixedOf (length disk) others) mixed → Contains others disk → All (λ other. length other ≡ length disk) others
+    → Stands i disk mixed w → Stands i disk others w
+standing_is_mixed_of_others i disk mixed others w each among sizes is =
+    let each_on : All (IsMixedOf i.map.size others) mixed = subst (λ (n : ℕ). All (IsMixedOf n others) mixed) is.long each in
+    record {
+      shape = is.shape;
+      versions = is.versions;
+      told = is.told;
+      file = is.file;
+      is_map = is.is_map;
+      owner = is.owner;
+      headed = is.headed;
+      image = is.image;
+      known = is.known;
+      long = is.long;
+      sizes = subst (λ (n : ℕ). All (λ other. length other ≡ n) others) is.long sizes;
+      among = among;
+      mixes = All-weaker (λ version. IsMixedOf i.map.size mixed (disk_of is.shape i.map.size version)) (λ version. IsMixedOf i.map.size others (disk_of is.shape i.map.size version))
+          (λ version kept. mixed_on i.map.size mixed others (disk_of is.shape i.map.size version) each_on kept) is.versions is.mixes;
+      disk_is = is.disk_is;
     }

@@ -34,6 +34,10 @@ SaysSame h g = (g.fields ≡ h.fields) × (g.kept.items.items ≡ h.kept.items.i
 abbrev pub KeepsHeader : List ℕ → List ℕ → Type 0
 KeepsHeader before after = (h g : Header) → Spells parts.Source before h → Spells parts.Source after g → SaysSame h g ⊎ SaysAgain h g
 
+-- Each header of the file after says again what each of the file before said, with this id and epoch and no table of spans.
+abbrev pub RewritesHeader : List ℕ → ℕ → List ℕ → List ℕ → Type 0
+RewritesHeader id epoch before after = (h g : Header) → Spells parts.Source before h → Spells parts.Source after g → SaysAgain h g × (g.own ≡ owns.Source id epoch 0 0)
+
 -- ---- opening
 
 -- From its first sync on an opening leaves, and reads give, the very disk, with the epoch as it was or the next one.
@@ -41,13 +45,14 @@ pub record IsOpening (id : List ℕ) (epoch : ℕ) (disk before file : List ℕ)
   pub either : IsInOrder id epoch disk file ⊎ IsInOrder id (epoch + 1) disk file
   pub header : KeepsHeader before file
 
--- A source of the next epoch, with the disk and the space that were found.
+-- A source of the next epoch, with the disk and the space that were found, and what the header said.
 pub record Opens (i : Image) (found : List ℕ) (w : World) : Type 0 where
   pub before : ℕ
   pub next : i.epoch ≡ before + 1
   pub disk : List ℕ
   pub in_order : IsInOrder i.id before disk found
   pub stands : Stands i disk (disk ∷ []) w
+  pub header : RewritesHeader i.id i.epoch found (w.seen (file_of i))
   pub space : (store : Store) → HasClusters found store → HasRoom found store.room → HasSpace i (w.seen (file_of i)) store
 
 -- ---- adopting

@@ -6,19 +6,20 @@ use Rattle.disk_model.specs.World.{World, EachSince, Rose}
 use Rattle.image_model.specs.Disks.{disk_of, IsMixedOf}
 use Rattle.image_model.specs.Space.{Store, AreEither}
 use Rattle.qc_map.specs.Mapping.{shape_by}
-use Rattle.image_store.specs.Images.{Image, file_of, IsMixture, Stands}
+use Rattle.image_store.specs.Images.{Image, file_of, IsMixture, KeepsFirst, Stands}
 
 -- n bytes of the disk, as reads give them now
 abbrev pub disk_now : Image → ℕ → ℕ → World → List ℕ
 disk_now i at n w = reading (disk_of (shape_by i.map) i.map.size (w.seen i.map.file)) at n
 
 -- What a write of these bytes leads to, whatever it answers: its range reads so now, each sector as before or as after the whole write, and a
--- crash since may mix that disk too.
+-- crash since may mix that disk too. The first cluster stays.
 pub record Leaves (i j : Image) (at : ℕ) (bytes left disk : List ℕ) (mixed : List (List ℕ)) (old new : World) : Type 0 where
   pub long : length left ≡ length bytes
   pub torn : IsMixedOf (length disk) (disk ∷ overlay disk at bytes ∷ []) (overlay disk at left)
   pub since : EachSince new old.now (file_of i) (IsMixture i.id i.epoch (mixed ++ overlay disk at left ∷ []))
   pub stands : Stands j (overlay disk at left) (mixed ++ overlay disk at left ∷ []) new
+  pub first : KeepsFirst i old new
 
 -- the same source, of which calls changed no more than its allocator and whether it broke
 pub record IsSameSource (i j : Image) : Type 0 where

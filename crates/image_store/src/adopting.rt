@@ -3,7 +3,7 @@
 ghost use Rattle.std.specs.Prelude.{◌≡◌, ◌≢◌, ◌<◌, List, ℕ, Err, IfErr, OnOk, IsTrue};
 ghost use Rattle.disk_model.specs.World.{World, Runs, reads_of, only_file, EachSinceSync, FileFailed, Holds, IsQuiet};
 ghost use Rattle.image_store.specs.Images.{IsInOrder};
-ghost use Rattle.image_store.specs.Opening.{IsForeign, IsAdopting};
+ghost use Rattle.image_store.specs.Opening.{IsForeign, IsAdopting, RewritesHeader};
 ghost use Rattle.image_store.specs.Refusals.{IsRefused};
 ghost use Rattle.image_store.specs.declared.finding.Wanted.TheVariants.{Adopted};
 ghost use Rattle.image_store.specs.declared.refusals.NotOpened.TheVariants as refusals;
@@ -25,7 +25,8 @@ pub fn adopt<D: Depot>(
 ) -> Result<(), NotOpened>
     requires given { file.0 < (D.world depot.old).given }
     ensures adopted { OnOk result (IsTrue (D.world depot.old).tells → (content : List ℕ) × IsForeign content ((D.world depot.old).seen file.0)
-        × Holds file.0 (IsInOrder disk 0 content) (IsInOrder disk 0 content) (D.world depot.new)) }
+        × Holds file.0 (IsInOrder disk 0 content) (IsInOrder disk 0 content) (D.world depot.new)
+        × RewritesHeader disk 0 ((D.world depot.old).seen file.0) ((D.world depot.new).seen file.0)) }
     ensures since { (content : List ℕ) → IsTrue (D.world depot.old).tells → IsForeign content ((D.world depot.old).seen file.0) →
         EachSinceSync (D.world depot.old) (D.world depot.new) file.0 (IsAdopting disk content ((D.world depot.old).seen file.0)) }
     ensures seen { (content : List ℕ) → IsTrue (D.world depot.old).tells → IsForeign content ((D.world depot.old).seen file.0) →

@@ -4,7 +4,7 @@ ghost use Rattle.std.specs.Prelude.{◌≡◌, ◌<◌, ℕ, List, Some, None, E
 ghost use Rattle.image_model.specs.declared.refusals.CloseRefusal.TheVariants.{Broken};
 ghost use Rattle.disk_model.specs.World.{World, Runs, only_file, EachSince, Holds, IsQuiet};
 ghost use Rattle.image_store.specs.Closing.{NotClosedBy, IsAtRest};
-ghost use Rattle.image_store.specs.Images.{file_of, IsInOrder, IsMixture, Stands};
+ghost use Rattle.image_store.specs.Images.{file_of, IsInOrder, IsMixture, KeepsFirst, Stands};
 
 use crate::source::Source;
 use disk_model::Depot;
@@ -16,6 +16,7 @@ impl Source {
         requires given { file_of self < (D.world depot.old).given }
         ensures since { (disk : List ℕ) (mixed : List (List ℕ)) → Stands self disk mixed (D.world depot.old) →
             EachSince (D.world depot.new) (D.world depot.old).now (file_of self) (IsMixture self.id self.epoch mixed) }
+        ensures first { (disk : List ℕ) (mixed : List (List ℕ)) → IsTrue (D.world depot.old).tells → Stands self disk mixed (D.world depot.old) → KeepsFirst self (D.world depot.old) (D.world depot.new) }
         ensures seen { (disk : List ℕ) (mixed : List (List ℕ)) → IsTrue (D.world depot.old).tells → Stands self disk mixed (D.world depot.old) →
             IsInOrder self.id self.epoch disk ((D.world depot.new).seen (file_of self)) }
         ensures done { OnOk result ((disk : List ℕ) (mixed : List (List ℕ)) → IsTrue (D.world depot.old).tells → Stands self disk mixed (D.world depot.old) →

@@ -6,7 +6,7 @@ ghost use Rattle.disk_model.specs.World.{World, Runs, only_file, EachSince, File
 ghost use Rattle.disk_model.specs.declared.depot.WriteRefusal.TheVariants as refusals;
 ghost use Rattle.file_device.specs.Calls.{Looks};
 ghost use Rattle.image_model.specs.Space.{Store, need, store_written, store_zeroed};
-ghost use Rattle.image_store.specs.Images.{file_of, IsMixture, Stands, HasSpace};
+ghost use Rattle.image_store.specs.Images.{file_of, IsMixture, KeepsFirst, Stands, HasSpace};
 ghost use Rattle.image_store.specs.Requests.{disk_now, Leaves, IsSameSource, MayBreak, SpendsUpTo, broken_in};
 
 use crate::source::Source;
@@ -121,6 +121,7 @@ impl Source {
         ensures undone { OnErr result ((disk : List ℕ) (mixed : List (List ℕ)) → Stands self.old disk mixed (D.world depot.old) → Stands self.new disk mixed (D.world depot.new)) }
         ensures since { (disk : List ℕ) (mixed : List (List ℕ)) → Stands self.old disk mixed (D.world depot.old) →
             EachSince (D.world depot.new) (D.world depot.old).now (file_of self.old) (IsMixture self.old.id self.old.epoch mixed) }
+        ensures first { (disk : List ℕ) (mixed : List (List ℕ)) → IsTrue (D.world depot.old).tells → Stands self.old disk mixed (D.world depot.old) → KeepsFirst self.old (D.world depot.old) (D.world depot.new) }
         ensures clusters { self.new.clusters ≡ self.old.clusters }
         ensures file { (D.world depot.new).seen (file_of self.old) ≡ (D.world depot.old).seen (file_of self.old) }
         ensures breaks { OnErr result (MayBreak self.old self.new (D.world depot.old) (D.world depot.new) × (self.new.broken ≢ None)) }

@@ -7,7 +7,7 @@ use Rattle.qc_alloc.specs.Allocator.{Allocator}
 use Rattle.image_store.specs.declared.refusals.NotOpened.TheVariants as refusals
 use Rattle.image_store.specs.Finding.{IsFound}
 use Rattle.image_store.specs.Opening.{IsForeign, IsAdopting}
-use Rattle.image_store.proofs.Adopted.{foreign, adopting_since, adopting_seen, whole_gives, adopted_holds, adopting_same}
+use Rattle.image_store.proofs.Adopted.{foreign, adopting_since, adopting_seen, whole_gives, adopted_header, adopted_holds, adopting_same}
 use Rattle.image_store.proofs.Begun.{none_synced}
 use Rattle.image_store.proofs.Taken.{of_fault, is_handed}
 use Rattle.image_store.proofs.adopting.adopt.Given.{Over}
@@ -87,6 +87,8 @@ returns-clause-adopted g c told =
       is,
       adopted_holds (found g r told) (h g r told) (a g r told) (fnd g r told).all (fnd g r told).header c.in_ok-found.ensures.header.1 c.args.disk c.sector_with-sector.result c.sector_with-sector.ensures (long g r told) c.args.file.0
           (w g r told) (y g r told) (same g r told) _ is.stands c.in_ok-rewrite_first_sector.ensures.done,
+      adopted_header (found g r told) (h g r told) (a g r told) (fnd g r told).all (fnd g r told).header c.in_ok-found.ensures.header.1 c.args.disk c.sector_with-sector.result c.sector_with-sector.ensures (long g r told) c.args.file.0
+          (w g r told) (y g r told) (same g r told) c.in_ok-rewrite_first_sector.ensures.done (told_y g r told),
     )
 
 pub returns-clause-since : goal.returns-clause-since

@@ -4,7 +4,7 @@ use Rattle.file_device.specs.Calls.{Synced}
 use Rattle.image_model.specs.Clusters.{Shape, IsSafe, IsStanding, Moves}
 use Rattle.image_store.specs.Images.{Image, file_of, Stands}
 use Rattle.image_store.specs.Requests.{MayBreak}
-use Rattle.image_store.proofs.Flushed.{breaks_by, flushed_ok, flushed_err, flushed_since}
+use Rattle.image_store.proofs.Flushed.{breaks_by, flushed_ok, flushed_err, flushed_first, flushed_since}
 use Rattle.image_store.proofs.source.Source.flush.Given.{Over}
 use Rattle.image_store.proofs.source.Source.flush.Goals.{After-rest}
 use Rattle.image_store.proofs.source.Source.flush.Goals as goal
@@ -34,6 +34,9 @@ returns-in-Ok-clause-done g c disk mixed is =
     flushed_ok c.args.self.now (synced g r) (stays g r) is
     (subst (λ (f : ℕ). (s : Shape) (disks : List (List ℕ)) (first last : ℕ) → Moves f (IsSafe s disks) (IsStanding s disks first last f) (IsStanding s ((y g r).seen f ∷ []) first last f) (x g r) (y g r)) (at g r) c.in-Ok.ensures.one)
 
+pub returns-in-Ok-clause-first : goal.returns-in-Ok-clause-first
+returns-in-Ok-clause-first g c disk mixed told is = let r = (goal.at.returns-in-Ok-clause-first g c).After-rest in flushed_first c.args.self.now (synced g r) (stays g r) is told
+
 pub returns-in-Ok-clause-since : goal.returns-in-Ok-clause-since
 returns-in-Ok-clause-since g c disk mixed is = let r = (goal.at.returns-in-Ok-clause-since g c).After-rest in flushed_since c.args.self.now (synced g r) (stays g r) is
 
@@ -44,6 +47,9 @@ pub returns-in-Err-clause-undone : goal.returns-in-Err-clause-undone
 returns-in-Err-clause-undone g c disk mixed is =
     let r = (goal.at.returns-in-Err-clause-undone g c).After-rest in
     subst (λ (j : Image). Stands j disk mixed (y g r)) (sym c.breaks.ensures) (flushed_err c.args.self.now (synced g r) (stays g r) is)
+
+pub returns-in-Err-clause-first : goal.returns-in-Err-clause-first
+returns-in-Err-clause-first g c disk mixed told is = let r = (goal.at.returns-in-Err-clause-first g c).After-rest in flushed_first c.args.self.now (synced g r) (stays g r) is told
 
 pub returns-in-Err-clause-since : goal.returns-in-Err-clause-since
 returns-in-Err-clause-since g c disk mixed is = let r = (goal.at.returns-in-Err-clause-since g c).After-rest in flushed_since c.args.self.now (synced g r) (stays g r) is

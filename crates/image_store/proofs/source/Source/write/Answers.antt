@@ -45,7 +45,7 @@ module _ (g : Over) (c : After-write g) where
   left_by : (b : Option ℕ) → (b ≡ None → (i.broken ≡ None) × KnowsOn i.map Always i.clusters a x y) → (disk : List ℕ) (mixed : List (List ℕ)) → IsTrue x.tells → Stands c.args.self.now disk mixed x
       → Leaves c.args.self.now (after i m a b) c.args.at c.args.bytes.now (disk_now c.args.self.now c.args.at n y) disk mixed x y
   left_by b knows = subst (λ (k : Image). (disk : List ℕ) (mixed : List (List ℕ)) → IsTrue x.tells → Stands k disk mixed x → Leaves k (after i m a b) c.args.at c.args.bytes.now (disk_now k c.args.at n y) disk mixed x y) c.self.view_is
-      (λ disk mixed told is. leaves i a b e c.write.ensures.changes c.self.invariant.mapping fits told is knows c.write.ensures.image.file (g.met.D.Depot.sound _) m c.write.ensures.same)
+      (λ disk mixed told is. leaves i a b e c.write.ensures.changes c.self.invariant.mapping fits told is knows c.write.ensures.image.file (g.met.D.Depot.sound _) (subst IsTrue (sym c.write.ensures.went.run.goes.tells) told) m c.write.ensures.same)
 
   space_by : (b : Option ℕ) (disk : List ℕ) (mixed : List (List ℕ)) (was next : Store) → IsTrue x.tells → Stands c.args.self.now disk mixed x → HasSpace c.args.self.now (x.seen (images.file_of c.args.self.now)) was
       → HasSpace (after i m a b) (y.seen (images.file_of c.args.self.now)) next → SpendsUpTo was (store_written was (extent_of c.args.at c.args.bytes.now)) next (need was (extent_of c.args.at c.args.bytes.now))

@@ -49,7 +49,7 @@ module _ (g : Over) (c : After-zero g) where
       → Leaves c.args.self.now (after i m a b) c.args.at (replicate n 0) (disk_now c.args.self.now c.args.at n y) disk mixed x y
   left_by b knows = subst (λ (k : Image). (disk : List ℕ) (mixed : List (List ℕ)) → IsTrue x.tells → Stands k disk mixed x → Leaves k (after i m a b) c.args.at (replicate n 0) (disk_now k c.args.at n y) disk mixed x y) c.self.view_is
       (λ disk mixed told is. subst (λ (k : ℕ). Leaves i (after i m a b) c.args.at (replicate n 0) (disk_now i c.args.at k y) disk mixed x y) long
-      (leaves i a b e c.zero.ensures.changes c.self.invariant.mapping fits told is knows c.zero.ensures.image.file (g.met.D.Depot.sound _) m c.zero.ensures.same))
+      (leaves i a b e c.zero.ensures.changes c.self.invariant.mapping fits told is knows c.zero.ensures.image.file (g.met.D.Depot.sound _) (subst IsTrue (sym c.zero.ensures.went.run.goes.tells) told) m c.zero.ensures.same))
 
   space_by : (b : Option ℕ) (disk : List ℕ) (mixed : List (List ℕ)) (was next : Store) → IsTrue x.tells → Stands c.args.self.now disk mixed x → HasSpace c.args.self.now (x.seen (images.file_of c.args.self.now)) was
       → HasSpace (after i m a b) (y.seen (images.file_of c.args.self.now)) next → SpendsUpTo was (store_zeroed c.args.self.now.map.size was (record { at = c.args.at; size = n })) next 0
